@@ -1,0 +1,4 @@
+pub mod Below
+pub mod Inverses
+pub mod Ring
+pub mod Table

@@ -1,0 +1,5 @@
+pub mod Dots
+pub mod Linear
+pub mod Recombined
+pub mod Values
+pub mod WeightSteps

@@ -1,0 +1,4 @@
+pub mod Circle
+pub mod Polynomial
+pub mod Weights
+pub mod Laws
