@@ -1,0 +1,4 @@
+pub mod Run
+pub mod Seen
+pub mod Pairing
+pub mod Laws

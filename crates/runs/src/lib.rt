@@ -1,0 +1,1 @@
+// A sheet done on shares, for all members in memory.

@@ -1,0 +1,15 @@
+// Sheets: arithmetic circuits, line by line.
+mod judging;
+mod line;
+mod reading;
+mod refusal;
+mod sheet;
+
+pub use line::Line;
+pub use line::LineDebug;
+pub use line::LinePartialEq;
+pub use refusal::Refusal;
+pub use refusal::RefusalDebug;
+pub use refusal::RefusalDisplay;
+pub use refusal::RefusalPartialEq;
+pub use sheet::Sheet;
