@@ -67,9 +67,10 @@ coinsAfter z l coins i = cond (deals z l i) (drop (z .t) (coins i)) (coins i)
 
 abbrev pub after : Circle → Line → State → State
 after z l s = record {
-    held = s .held ++ shares z l s;
-    figures = figuresAfter l (s .figures);
-    coins = coinsAfter z l (s .coins) }
+  held = s .held ++ shares z l s;
+  figures = figuresAfter l (s .figures);
+  coins = coinsAfter z l (s .coins);
+}
 
 -- the state after all lines
 unfoldable pub final : Circle → List Line → State → State

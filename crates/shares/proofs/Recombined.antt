@@ -66,7 +66,7 @@ recombine k le f len =
     sym (ap (λ (h : ℕ → ℕ). dot (weights k) (map h (members k))) (fun-ext (power-none f)))
     ∙ (times-join k 0 f le (omega arith) ∙ power-none f 0)
 
-value-at-0 : (v : ℕ) (f : List ℕ) → v < p → value (v ∷ f) 0 ≡ v
+pub value-at-0 : (v : ℕ) (f : List ℕ) → v < p → value (v ∷ f) 0 ≡ v
 value-at-0 v f lt = value-cons v f 0 ∙ (ap (λ (x : ℕ). v ⊕ x) (0-⊗ (value f 0)) ∙ (⊕-0 v ∙ reduced lt))
 
 pub shared : Shared

@@ -39,7 +39,7 @@ pub undefined-all : (k : ℕ) (xs : List Line) (i : ℕ) → length xs ≤ i →
 unfolding anyUndefined
 undefined-all k xs i le = sym (at-drop-all (anyUndefined k) xs i le)
 
-made-at-most : (l : Line) (k : ℕ) → made l k ≤ k + 1
+pub made-at-most : (l : Line) (k : ℕ) → made l k ≤ k + 1
 made-at-most (Input w) k = omega arith
 made-at-most (Sum a e) k = omega arith
 made-at-most (Times c a) k = omega arith

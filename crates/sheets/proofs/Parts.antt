@@ -21,11 +21,12 @@ pub record Reads (count : ℕ) (bs : List ℕ) (k : ℕ) (lines : List Line) (re
 
 pub reads-none : (count : ℕ) (bs : List ℕ) (lines : List Line) → length bs ≡ 9 * count → lines ≡ [] → Reads count bs 0 lines bs
 reads-none count bs lines len e = record {
-    left = count;
-    counts = omega arith;
-    long = len;
-    clean = refl;
-    whole = ap (λ (ls : List Line). ls ++ map lineOf (nines count bs)) e }
+  left = count;
+  counts = omega arith;
+  long = len;
+  clean = refl;
+  whole = ap (λ (ls : List Line). ls ++ map lineOf (nines count bs)) e;
+}
 
 abbrev pub Step : (count : ℕ) (bs : List ℕ) (k : ℕ) (lines : List Line) (rest : List ℕ) → Type 0
 Step count bs k lines rest =
@@ -41,15 +42,17 @@ reads-step-at : (count : ℕ) (bs : List ℕ) (k : ℕ) (lines : List Line) (res
 unfolding nines
 reads-step-at count bs k lines rest zero lt counts long clean whole = absurd (omega arith)
 reads-step-at count bs k lines rest (suc left) lt counts long clean whole =
-    let more : List Line = map lineOf (nines left (drop 9 rest)) in
-    ((λ ok. record {
+    let more : List Line = map lineOf (nines left (drop 9 rest)) in (
+      (λ ok. record {
         left = left;
         counts = omega arith;
         long = length-drop 9 rest ∙ omega arith;
         clean = clean ∙ false-or (malformed (take 9 rest)) (any malformed (nines left (drop 9 rest))) ok;
-        whole = append-assoc lines (lineOf (take 9 rest) ∷ []) more ∙ whole }),
-    (λ bad. clean ∙ or-left (malformed (take 9 rest)) (any malformed (nines left (drop 9 rest))) bad),
-    omega arith)
+        whole = append-assoc lines (lineOf (take 9 rest) ∷ []) more ∙ whole;
+      }),
+      (λ bad. clean ∙ or-left (malformed (take 9 rest)) (any malformed (nines left (drop 9 rest))) bad),
+      omega arith,
+    )
 
 pub reads-step : (count : ℕ) (bs : List ℕ) (k : ℕ) (lines : List Line) (rest : List ℕ) → k < count → Reads count bs k lines rest → Step count bs k lines rest
 reads-step count bs k lines rest lt h = reads-step-at count bs k lines rest (h .left) lt (h .counts) (h .long) (h .clean) (h .whole)

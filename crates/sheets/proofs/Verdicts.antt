@@ -50,7 +50,7 @@ framed-verdict bs count h =
     let same : malformedSheet bs ≡ any malformed (partsOf bs) = or-no (not (eqb (getD bs 0 0) 1)) (not (eqb (length bs) (5 + 9 * countOf bs))) (any malformed (partsOf bs)) a b in
     ap (λ (x : Bool). by-tests x (badShape (membersOf bs) (thresholdOf bs) (countOf bs)) (verdictOn (membersOf bs) (linesOf bs))) same
     ∙ ap₂ (λ (n : ℕ) (xs : List (List ℕ)). by-tests (any malformed xs) (badShape (membersOf bs) (thresholdOf bs) n) (verdictOn (membersOf bs) (map lineOf xs)))
-      (sym counted) (sym (parts-of-tail bs count counted))
+    (sym counted) (sym (parts-of-tail bs count counted))
 
 pub verdict-malformed : (bs : List ℕ) (count : ℕ) → Framed bs count → any malformed (nines count (tailOf bs)) ≡ true → verdict bs ≡ Some Malformed
 verdict-malformed bs count h e =
@@ -90,7 +90,8 @@ shape-from n t count e =
       few = ltb-false 15 n (first .0);
       enough = ltb-false n (t + t + 1) (first .1);
       some = omega arith;
-      short = ltb-false 4096 count (last .1) }
+      short = ltb-false 4096 count (last .1);
+    }
 
 -- a line without fault is good
 good-line : (n k : ℕ) (l : Line) → outOfRange n l ≡ false → undefined k l ≡ false → goodLine n k l ≡ true

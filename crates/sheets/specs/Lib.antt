@@ -1,5 +1,7 @@
 pub mod Bytes
 pub mod Families
+pub mod Faults
+pub mod Laws
 pub mod Lines
 pub mod Meaning
 pub mod Outcome

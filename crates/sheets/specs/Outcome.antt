@@ -1,6 +1,6 @@
 -- What the readers of sheets answer.
 use mathlib.Core.Bool.{Bool, true, false}
-use mathlib.Core.List.{List, [], _∷_, map}
+use mathlib.Core.List.{List, _++_, map}
 use mathlib.Core.Logic.{_⊎_}
 use mathlib.Core.Path.{_≡_}
 use Prim.Native.Nat.{ℕ}
@@ -30,3 +30,8 @@ pub record Holds (s : Sheet) (n t : ℕ) (lines : List Line) : Type 0 where
 abbrev pub ReadAs : List ℕ → Result Sheet Refusal → Type 0
 ReadAs bs (Ok s) = (verdict bs ≡ None) × Holds s (membersOf bs) (thresholdOf bs) (linesOf bs)
 ReadAs bs (Err e) = (e ≡ NoMemory) ⊎ (verdict bs ≡ Some e)
+
+-- what a writer answers: all bytes are appended, or, for want of memory, none
+abbrev pub AppendedBy : List ℕ → List ℕ → List ℕ → Result (Unit {0}) Refusal → Type 0
+AppendedBy bytes before after (Ok u) = after ≡ before ++ bytes
+AppendedBy bytes before after (Err e) = (e ≡ NoMemory) × (after ≡ before)

@@ -1,10 +1,15 @@
 // Sheets: arithmetic circuits, line by line.
 mod judging;
+mod laws;
 mod line;
 mod reading;
 mod refusal;
 mod sheet;
+mod writing;
 
+pub use laws::judgement_law;
+pub use laws::reread_law;
+pub use laws::rewritten_law;
 pub use line::Line;
 pub use line::LineDebug;
 pub use line::LinePartialEq;

@@ -45,7 +45,8 @@ impl Line {
     {
         match self {
             Line::Input(member) => member == 0 || member > n,
-            Line::Sum(a, b) | Line::Times(a, b) | Line::Product(a, b) => a >= field::P || b >= field::P,
+            Line::Sum(a, b) | Line::Times(a, b) | Line::Product(a, b) => a >= field::P
+                || b >= field::P,
             Line::Open(a) => a >= field::P,
         }
     }

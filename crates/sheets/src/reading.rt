@@ -31,7 +31,11 @@ impl Sheet {
         }
         match judge(*n as u32, &lines) {
             Some(refusal) => Err(refusal),
-            None => Ok(Sheet { n: *n as usize, t: *t as usize, lines }),
+            None => Ok(Sheet {
+                n: *n as usize,
+                t: *t as usize,
+                lines,
+            }),
         }
     }
 }

@@ -45,8 +45,10 @@ impl Refusal {
     pub fn cause(self) -> &'static str {
         match self {
             Refusal::NoMemory => "there is not enough memory",
-            Refusal::Malformed => "unknown kind, bad length, or a second number that isn't 0 where there is one",
-            Refusal::BadShape => "no members or more than 15, 2t + 1 above their number, or no line or more than 4096",
+            Refusal::Malformed =>
+                "unknown kind, bad length, or a second number that isn't 0 where there is one",
+            Refusal::BadShape =>
+                "no members or more than 15, 2t + 1 above their number, or no line or more than 4096",
             Refusal::OutOfRange => "a number is too large, or there is no such member",
             Refusal::NotMadeYet => "a line names a value that is not made yet",
             Refusal::WrongAddress => "not from a member, or not to this one",

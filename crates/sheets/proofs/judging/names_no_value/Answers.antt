@@ -8,11 +8,12 @@ returns-then-is-undefined c =
     ∙ sym (c .loop-line .inv .0)
 
 pub loop-line-again : need.loop-line-again
-loop-line-again c =
-    (c .loop-line .inv .0
-    ∙ undefined-more (c .loop-line .made) (c .values-after-made .result) (c .args .lines .now) (c .loop-line .line-index) _ (c .loop-line-test .taken)
+loop-line-again c = (
+  c .loop-line .inv .0
+      ∙ undefined-more (c .loop-line .made) (c .values-after-made .result) (c .args .lines .now) (c .loop-line .line-index) _ (c .loop-line-test .taken)
       (c .if-is-undefined .ensures tt) (c .values-after-made .ensures),
-    made-within _ (c .loop-line .made) (c .values-after-made .result) (c .loop-line .line-index) (c .values-after-made .ensures) (c .loop-line .inv .1))
+  made-within _ (c .loop-line .made) (c .values-after-made .result) (c .loop-line .line-index) (c .values-after-made .ensures) (c .loop-line .inv .1),
+)
 
 pub returns : need.returns
 returns c =

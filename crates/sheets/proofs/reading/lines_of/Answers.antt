@@ -34,10 +34,10 @@ loop-again c =
     let is : nine ≡ take 9 (c .loop .rest .now) = c .in-Some .ensures tt .cases .0 in
     let read = some-read (malformed nine) (lineOf nine) (c .in-Some-read .line) (c .in-Some-read .ensures tt) in
     let pushed : vec-items (c .push .last .self) ≡ vec-items (c .loop .lines) ++ lineOf (take 9 (c .loop .rest .now)) ∷ [] =
-        c .in-Ok-push .ensures tt .items ∙ ap (λ (l : Line). vec-items (c .loop .lines) ++ l ∷ []) (read .1 ∙ ap lineOf is) in
+    c .in-Ok-push .ensures tt .items ∙ ap (λ (l : Line). vec-items (c .loop .lines) ++ l ∷ []) (read .1 ∙ ap lineOf is) in
     subst (λ (ls : List Line). Reads (c .args .count) (c .args .bytes .now) (c .loop .counter + 1) ls (c .in-Some .tail .now)) (sym pushed)
     (subst (λ (tail : List ℕ). Reads (c .args .count) (c .args .bytes .now) (c .loop .counter + 1) (vec-items (c .loop .lines) ++ lineOf (take 9 (c .loop .rest .now)) ∷ []) tail)
-      (sym (c .in-Some .ensures tt .cases .1)) (step .0 (ap malformed (sym is) ∙ read .0)))
+    (sym (c .in-Some .ensures tt .cases .1)) (step .0 (ap malformed (sym is) ∙ read .0)))
 
 pub returns : need.returns
 returns c = reads-all (c .args .count) (c .args .bytes .now) (c .loop .counter) (vec-items (c .loop .lines)) (c .loop .rest .now) (c .loop-test .left) (c .loop .inv)

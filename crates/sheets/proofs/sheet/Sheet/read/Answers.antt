@@ -39,9 +39,9 @@ ghost-result c =
     let lines = c .in-Ok .ensures tt .1 in
     let shape : Shape n (getD bs 2 0) count = shape-from n (getD bs 2 0) count (sym (c .if-is-bad-shape .ensures tt)) in
     let clean : Clean n (vec-items (c .in-Ok .lines)) =
-        clean-from n (vec-items (c .in-Ok .lines)) (ap (verdictOn n) (sym (c .deref .ensures .value)) ∙ sym (c .in-None .ensures tt)) in
+    clean-from n (vec-items (c .in-Ok .lines)) (ap (verdictOn n) (sym (c .deref .ensures .value)) ∙ sym (c .in-None .ensures tt)) in
     let long : vec-len (c .in-Ok .lines) ≡ count =
-        c .in-Ok .lines .ok .0 ∙ (ap length lines ∙ (length-map (nines count (tailOf bs)) lineOf ∙ length-nines count (tailOf bs))) in
+    c .in-Ok .lines .ok .0 ∙ (ap length lines ∙ (length-map (nines count (tailOf bs)) lineOf ∙ length-nines count (tailOf bs))) in
     (shape .few, (shape .enough, (omega (arith, shape .some, long), (omega (arith, shape .short, long), (good-from n (vec-items (c .in-Ok .lines)) clean, (clean .given, tt))))))
 
 pub returns-in-Some : need.returns-in-Some
@@ -49,15 +49,17 @@ returns-in-Some c =
     let bs = c .args .bytes .now in
     let h : Framed bs (c .from-be-bytes-count .result) = record { kind = search needs; five = search needs; counted = search needs; long = search needs } in
     inr (verdict-lines bs (c .from-be-bytes-count .result) h (c .in-Ok .ensures tt .0) (sym (c .if-is-bad-shape .ensures tt)) (c .deref .result .now)
-      (c .deref .ensures .value ∙ c .in-Ok .ensures tt .1) ∙ sym (c .in-Some .ensures tt))
+    (c .deref .ensures .value ∙ c .in-Ok .ensures tt .1) ∙ sym (c .in-Some .ensures tt))
 
 pub returns-in-None : need.returns-in-None
 returns-in-None c =
     let bs = c .args .bytes .now in
-    let h : Framed bs (c .from-be-bytes-count .result) = record { kind = search needs; five = search needs; counted = search needs; long = search needs } in
-    (verdict-lines bs (c .from-be-bytes-count .result) h (c .in-Ok .ensures tt .0) (sym (c .if-is-bad-shape .ensures tt)) (c .deref .result .now)
-      (c .deref .ensures .value ∙ c .in-Ok .ensures tt .1) ∙ sym (c .in-None .ensures tt),
-    record {
-      members = search needs;
-      threshold = search needs;
-      same = c .in-Ok .ensures tt .1 ∙ ap (map lineOf) (parts-of-tail bs (c .from-be-bytes-count .result) (h .counted)) })
+    let h : Framed bs (c .from-be-bytes-count .result) = record { kind = search needs; five = search needs; counted = search needs; long = search needs } in (
+      verdict-lines bs (c .from-be-bytes-count .result) h (c .in-Ok .ensures tt .0) (sym (c .if-is-bad-shape .ensures tt)) (c .deref .result .now)
+          (c .deref .ensures .value ∙ c .in-Ok .ensures tt .1) ∙ sym (c .in-None .ensures tt),
+      record {
+        members = search needs;
+        threshold = search needs;
+        same = c .in-Ok .ensures tt .1 ∙ ap (map lineOf) (parts-of-tail bs (c .from-be-bytes-count .result) (h .counted));
+      },
+    )
