@@ -5,3 +5,5 @@ pub mod Appended
 pub mod Lowest
 pub mod Judgement
 pub mod RoundTrips
+pub mod Drawn
+pub mod Needed

@@ -1,4 +1,5 @@
 pub mod Bytes
+pub mod Drawing
 pub mod Families
 pub mod Faults
 pub mod Laws
@@ -7,3 +8,4 @@ pub mod Meaning
 pub mod Outcome
 pub mod Reading
 pub mod Refusals
+pub mod Sheets

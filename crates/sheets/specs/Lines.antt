@@ -36,13 +36,16 @@ gives (Times c a) i = false
 gives (Product a e) i = false
 gives (Open a) i = false
 
--- member i deals a number for this line, under t coins of its own
+-- member i of n deals a number for this line, under coins of its own
+abbrev pub dealsIn : ℕ → Line → ℕ → Bool
+dealsIn n (Input w) i = eqb i w
+dealsIn n (Sum a e) i = false
+dealsIn n (Times c a) i = false
+dealsIn n (Product a e) i = ltb 0 i && leb i n
+dealsIn n (Open a) i = false
+
 abbrev pub deals : Circle → Line → ℕ → Bool
-deals z (Input w) i = eqb i w
-deals z (Sum a e) i = false
-deals z (Times c a) i = false
-deals z (Product a e) i = ltb 0 i && leb i (z .n)
-deals z (Open a) i = false
+deals z = dealsIn (z .n)
 
 -- how many figures and how many coins member i needs for all lines
 unfoldable pub figuresNeeded : ℕ → List Line → ℕ

@@ -1,12 +1,15 @@
 // Sheets: arithmetic circuits, line by line.
+mod drawing;
 mod judging;
 mod laws;
 mod line;
+mod needs;
 mod reading;
 mod refusal;
 mod sheet;
 mod writing;
 
+pub use drawing::draw;
 pub use laws::judgement_law;
 pub use laws::reread_law;
 pub use laws::rewritten_law;

@@ -3,7 +3,7 @@ ghost use lib.ListN.{length};
 ghost use mathlib.Core.Bool.{cond};
 ghost use mathlib.Core.Path.{_≡_};
 ghost use Prim.Native.Nat.{_<_};
-ghost use Rattle.sheets.specs.Lines.{made as madeBy};
+ghost use Rattle.sheets.specs.Lines.{made as madeBy, gives, dealsIn};
 ghost use Rattle.sheets.specs.Reading.{malformed, lineOf, outOfRange, undefined as undefinedAt};
 ghost use Rattle.std.specs.declared.option.Option.the-variants.{Some, None};
 
@@ -71,5 +71,27 @@ impl Line {
             Line::Open(_) => made,
             Line::Input(_) | Line::Sum(_, _) | Line::Times(_, _) | Line::Product(_, _) => made + 1,
         }
+    }
+
+    // How many figures a member gives for it.
+    pub fn figures_of(self, member: u32) -> usize
+        ensures { λ r. ⌜ r ≡ cond (gives self member) 1 0 ⌝ }
+    {
+        match self {
+            Line::Input(giver) if giver == member => 1,
+            _ => 0,
+        }
+    }
+
+    // How many coins a member draws for it, in a circle of n where a dealer draws t.
+    pub fn coins_of(self, n: usize, t: usize, member: u32) -> usize
+        ensures { λ r. ⌜ r ≡ cond (dealsIn n self member) t 0 ⌝ }
+    {
+        let deals = match self {
+            Line::Input(giver) => giver == member,
+            Line::Product(_, _) => 0 < member && member as usize <= n,
+            Line::Sum(_, _) | Line::Times(_, _) | Line::Open(_) => false,
+        };
+        if deals { t } else { 0 }
     }
 }
