@@ -1,9 +1,10 @@
 -- What a sheet means in the plain: of figures that are one list for each member.
-use mathlib.Core.Bool.{cond}
+use mathlib.Core.Bool.{Bool, true, cond, _&&_}
 use mathlib.Core.List.{List, [], _∷_, _++_}
 use Prim.Native.Nat.{ℕ}
-use lib.ListN.{getD, drop}
-use Rattle.field.specs.Field.{_⊕_, _⊗_}
+use lib.Dec.{ltb}
+use lib.ListN.{length, getD, drop}
+use Rattle.field.specs.Field.{_⊕_, _⊗_, below}
 use Rattle.sheets.specs.Lines.{gives}
 use Rattle.sheets.specs.declared.line.Line.{Line}
 use Rattle.sheets.specs.declared.line.Line.the-variants.{Input, Sum, Times, Product, Open}
@@ -43,3 +44,20 @@ plainRun (l ∷ ls) s = plainOpened l s ++ plainRun ls (plainAfter l s)
 -- what the sheet opens, in the order of its open lines, of figures taken in the order of its input lines
 abbrev pub result : List Line → (ℕ → List ℕ) → List ℕ
 result ls figures = plainRun ls (record { values = []; figures = figures })
+
+-- there is a figure for this line, and for each of the lines
+abbrev pub hasFigure : Line → (ℕ → List ℕ) → Bool
+hasFigure (Input w) figures = ltb 0 (length (figures w))
+hasFigure (Sum a e) figures = true
+hasFigure (Times k a) figures = true
+hasFigure (Product a e) figures = true
+hasFigure (Open a) figures = true
+
+unfoldable pub haveFigures : List Line → (ℕ → List ℕ) → Bool
+haveFigures [] figures = true
+haveFigures (l ∷ ls) figures = hasFigure l figures && haveFigures ls (figuresAfter l figures)
+
+-- all numbers of all lists lie below p
+unfoldable pub allBelow : List (List ℕ) → Bool
+allBelow [] = true
+allBelow (xs ∷ xss) = below xs && allBelow xss

@@ -1,6 +1,9 @@
 -- The numbers of refusals. Want of memory is none of the causes that a reader can mend, and has 0.
+use mathlib.Core.List.{List, _++_}
 use mathlib.Core.Path.{_≡_}
 use Prim.Native.Nat.{ℕ, _<_}
+use lib.Chars.{codes}
+use Rattle.std.specs.Written.{decimal}
 use Rattle.std.specs.declared.option.Option.{Option}
 use Rattle.std.specs.declared.option.Option.the-variants.{Some, None}
 use Rattle.sheets.specs.declared.refusal.Refusal.{Refusal}
@@ -20,6 +23,26 @@ numberOf SecondShare = 9
 numberOf NoFigure = 10
 numberOf NoCoins = 11
 numberOf TooManyInputs = 12
+
+-- the causes, as they are told
+abbrev pub causeOf : Refusal → List ℕ
+causeOf NoMemory = codes "there is not enough memory"
+causeOf Malformed = codes "unknown kind, bad length, or a second number that isn't 0 where there is one"
+causeOf BadShape = codes "no members or more than 15, 2t + 1 above their number, or no line or more than 4096"
+causeOf OutOfRange = codes "a number is too large, or there is no such member"
+causeOf NotMadeYet = codes "a line names a value that is not made yet"
+causeOf WrongAddress = codes "not from a member, or not to this one"
+causeOf OtherSheet = codes "the sheets differ"
+causeOf WrongLine = codes "no such line, or one for which this sender sends nothing"
+causeOf SecondGreeting = codes "a second first envelope from a member"
+causeOf SecondShare = codes "a second share for a line, or one for a line that is done"
+causeOf NoFigure = codes "figures are used up"
+causeOf NoCoins = codes "coins are used up"
+causeOf TooManyInputs = codes "more than 1024 input lines"
+
+-- the line that tells a refusal: its number, a colon, and the cause
+abbrev pub told : Refusal → List ℕ
+told e = decimal (numberOf e) ++ (codes ": " ++ causeOf e)
 
 -- of what is found, this is the lowest number
 abbrev pub Lowest : (ℕ → Type 0) → ℕ → Type 0

@@ -7,14 +7,14 @@ use crate::line::Line;
 use crate::refusal::Refusal;
 
 // Too many members, or too few for the threshold, or too few or too many lines.
-pub fn is_bad_shape(n: u8, t: u8, count: usize) -> bool
+pub(crate) fn is_bad_shape(n: u8, t: u8, count: usize) -> bool
     ensures { λ r. ⌜ r ≡ badShape n t count ⌝ }
 {
     n > 15 || t as u32 + t as u32 + 1 > n as u32 || count == 0 || count > 4096
 }
 
 // What is wrong with lines for n members, the lowest number first.
-pub fn judge(n: u32, lines: &[Line]) -> Option<Refusal>
+pub(crate) fn judge(n: u32, lines: &[Line]) -> Option<Refusal>
     requires { ⌜ length (now lines) < 65536 ⌝ }
     ensures { λ r. ⌜ r ≡ verdictOn n (now (lines .entry)) ⌝ }
 {

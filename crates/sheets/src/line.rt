@@ -24,7 +24,7 @@ pub enum Line {
 
 impl Line {
     // The line in nine bytes: a kind and two numbers, of which the second is 0 where the kind has only one.
-    pub fn read(bytes: &[u8; 9]) -> Option<Line>
+    pub(crate) fn read(bytes: &[u8; 9]) -> Option<Line>
         ensures { λ r. ⌜ r ≡ cond (malformed (now (bytes .entry))) None (Some (lineOf (now (bytes .entry)))) ⌝ }
     {
         let first = u32::from_be_bytes([bytes[1], bytes[2], bytes[3], bytes[4]]);
@@ -40,7 +40,7 @@ impl Line {
     }
 
     // A number is P or above, or names no member among 1 to n.
-    pub fn is_out_of_range(self, n: u32) -> bool
+    pub(crate) fn is_out_of_range(self, n: u32) -> bool
         ensures { λ r. ⌜ r ≡ outOfRange n self ⌝ }
     {
         match self {
@@ -52,7 +52,7 @@ impl Line {
     }
 
     // It names a value that is not among the first `made`.
-    pub fn is_undefined(self, made: u32) -> bool
+    pub(crate) fn is_undefined(self, made: u32) -> bool
         ensures { λ r. ⌜ r ≡ undefinedAt made self ⌝ }
     {
         match self {
@@ -63,7 +63,7 @@ impl Line {
     }
 
     // How many values there are after it, if there were `made` before.
-    pub fn values_after(self, made: u32) -> u32
+    pub(crate) fn values_after(self, made: u32) -> u32
         requires { ⌜ made < 65536 ⌝ }
         ensures { λ r. ⌜ r ≡ madeBy self made ⌝ }
     {
@@ -74,7 +74,7 @@ impl Line {
     }
 
     // How many figures a member gives for it.
-    pub fn figures_of(self, member: u32) -> usize
+    pub(crate) fn figures_of(self, member: u32) -> usize
         ensures { λ r. ⌜ r ≡ cond (gives self member) 1 0 ⌝ }
     {
         match self {
@@ -84,7 +84,7 @@ impl Line {
     }
 
     // How many coins a member draws for it, in a circle of n where a dealer draws t.
-    pub fn coins_of(self, n: usize, t: usize, member: u32) -> usize
+    pub(crate) fn coins_of(self, n: usize, t: usize, member: u32) -> usize
         ensures { λ r. ⌜ r ≡ cond (dealsIn n self member) t 0 ⌝ }
     {
         let deals = match self {

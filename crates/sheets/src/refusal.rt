@@ -1,6 +1,7 @@
 // Why something is refused. Each cause has a number, and of several the lowest is given.
 ghost use mathlib.Core.Path.{_≡_};
-ghost use Rattle.sheets.specs.Refusals.{numberOf};
+ghost use Rattle.sheets.specs.Refusals.{numberOf, causeOf, told};
+ghost use Rattle.std.specs.declared.option.Option.the-variants.{Some};
 use std::fmt;
 
 #[derive(Clone, Copy, PartialEq, Eq, Debug)]
@@ -42,7 +43,9 @@ impl Refusal {
     }
 
     // What is wrong, in words.
-    pub fn cause(self) -> &'static str {
+    pub fn cause(self) -> &'static str
+        ensures { λ r. ⌜ now r ≡ causeOf self ⌝ }
+    {
         match self {
             Refusal::NoMemory => "there is not enough memory",
             Refusal::Malformed =>
@@ -64,6 +67,8 @@ impl Refusal {
 }
 
 pub impl fmt::Display for Refusal as RefusalDisplay {
+    ghost shown = { λ e. Some (told e) };
+
     fn fmt<W: fmt::Write>(&self, f: &mut fmt::Formatter<W>) -> fmt::Result {
         let number = self.number();
         let cause = self.cause();
