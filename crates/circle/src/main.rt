@@ -1,26 +1,58 @@
-// Three members, of whom any one may be curious. Members 1 and 2 give a figure each, and only the sum is opened.
-ghost use mathlib.Core.Path.{_≡_};
-use std::io;
+// Plays all members of a circle in memory.
+use console::Failure;
+use console::FailureDisplay;
+use console::FailureFromAlloc;
+use console::FailureFromIo;
+use console::FailureFromRefusal;
+use sheets::Refusal;
+use sheets::Sheet;
+use std::io::BufWriter;
+use std::io::Write;
 
-// Deals 5 under coin 2 and 3 under coin 4, has each member add its two shares, and joins the sums.
-fn opened_sum() -> u32
-    ensures { λ r. ⌜ r ≡ 8 ⌝ }
-{
-    let mut first = [0; 3];
-    let mut second = [0; 3];
-    let mut weights = [0; 3];
-    shares::deal(5, &[2], &mut first);
-    shares::deal(3, &[4], &mut second);
-    shares::fill_weights(&mut weights);
-    let [a, b, c] = first;
-    let [d, e, f] = second;
-    shares::join(
-        &weights,
-        &[field::sum(a, d), field::sum(b, e), field::sum(c, f)],
-    )
+const USAGE: &str = "usage: circle SHEET INPUTS ORDER [WATCHED ..]";
+
+// Reads the files in the order of the arguments, plays the sheet, and prints what was opened and what is seen.
+fn play(rt: &LibcRuntime, words: &[String]) -> Result<(), Failure> {
+    let heap = rt.alloc();
+    let [sheet, inputs, order, watched @ ..] = words else {
+        return Err(Failure::Usage(USAGE));
+    };
+    let Some(watched) = console::member_words(heap, watched)? else {
+        return Err(Failure::Usage(USAGE));
+    };
+    let sheet = Sheet::read(heap, &console::file(rt, sheet.as_str())?)?;
+    let inputs = files::read_circle_inputs(heap, sheet.members(), &console::file(rt, inputs.as_str())?)?;
+    let _ = files::read_order(heap, &console::file(rt, order.as_str())?)?;
+    let Some(_) = console::member_set(sheet.members(), &watched) else {
+        return Err(Failure::Refused(Refusal::WrongAddress));
+    };
+    let figures = files::lend(heap, &inputs.figures)?;
+    print(rt, &sheet.result(heap, &figures)?)
 }
 
-fn main(rt: LibcRuntime) -> io::Result<()> {
-    let opened = opened_sum();
-    println!(rt, "{opened}")
+// One number to a line.
+fn print(rt: &LibcRuntime, opened: &[u32]) -> Result<(), Failure> {
+    let mut out = BufWriter::new(rt.stdout());
+    for number in opened {
+        writeln!(out, "{number}")?;
+    }
+    Ok(out.flush()?)
+}
+
+fn run(rt: &LibcRuntime) -> Result<(), Failure> {
+    let words = console::arguments(rt)?;
+    if let [word] = words.as_slice() && word.as_str() == "--help" {
+        return Ok(rt.println(USAGE)?);
+    }
+    play(rt, &words)
+}
+
+fn main(rt: LibcRuntime) -> Result<(), ()> {
+    match run(&rt) {
+        Ok(()) => Ok(()),
+        Err(failure) => {
+            let _ = rt.eprintln(&failure);
+            Err(())
+        }
+    }
 }
