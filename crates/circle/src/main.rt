@@ -21,7 +21,11 @@ fn play(rt: &LibcRuntime, words: &[String]) -> Result<(), Failure> {
         return Err(Failure::Usage(USAGE));
     };
     let sheet = Sheet::read(heap, &console::file(rt, sheet.as_str())?)?;
-    let inputs = files::read_circle_inputs(heap, sheet.members(), &console::file(rt, inputs.as_str())?)?;
+    let inputs = files::read_circle_inputs(
+        heap,
+        sheet.members(),
+        &console::file(rt, inputs.as_str())?,
+    )?;
     let _ = files::read_order(heap, &console::file(rt, order.as_str())?)?;
     let Some(_) = console::member_set(sheet.members(), &watched) else {
         return Err(Failure::Refused(Refusal::WrongAddress));
@@ -41,7 +45,9 @@ fn print(rt: &LibcRuntime, opened: &[u32]) -> Result<(), Failure> {
 
 fn run(rt: &LibcRuntime) -> Result<(), Failure> {
     let words = console::arguments(rt)?;
-    if let [word] = words.as_slice() && word.as_str() == "--help" {
+    if let [word] = words.as_slice()
+        && word.as_str() == "--help"
+    {
         return Ok(rt.println(USAGE)?);
     }
     play(rt, &words)

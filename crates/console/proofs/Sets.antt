@@ -29,15 +29,15 @@ pub set-more : (flags : List Bool) (numbers : List ℕ) (i number k : ℕ) → l
 set-more flags numbers i number k len lt pos le in′ is =
     let rest : Bool = any (λ x. eqb x (k + 1)) (drop (i + 1) numbers) in
     let step : any (λ x. eqb x (k + 1)) (drop i numbers) ≡ eqb number (k + 1) || rest =
-        at-drop-more (any (λ x. eqb x (k + 1))) numbers i 0 in′ ∙ ap (λ (x : ℕ). eqb x (k + 1) || rest) (sym is) in
+    at-drop-more (any (λ x. eqb x (k + 1))) numbers i 0 in′ ∙ ap (λ (x : ℕ). eqb x (k + 1) || rest) (sym is) in
     ⊎-elim
     (λ same.
-      ap (λ (j : ℕ). getD (set flags (number - 1) true) j false || rest) same
-      ∙ (ap (λ (b : Bool). b || rest) (getD-set-same flags (number - 1) true false (omega arith))
-      ∙ sym (ap (λ (b : Bool). getD flags k false || b) (step ∙ ap (λ (b : Bool). b || rest) (eq-eqb number (k + 1) (omega arith))) ∙ true-or (getD flags k false) rest)))
+    ap (λ (j : ℕ). getD (set flags (number - 1) true) j false || rest) same
+    ∙ (ap (λ (b : Bool). b || rest) (getD-set-same flags (number - 1) true false (omega arith))
+    ∙ sym (ap (λ (b : Bool). getD flags k false || b) (step ∙ ap (λ (b : Bool). b || rest) (eq-eqb number (k + 1) (omega arith))) ∙ true-or (getD flags k false) rest)))
     (λ other.
-      ap (λ (b : Bool). b || rest) (getD-set-other flags (number - 1) k true false other)
-      ∙ sym (ap (λ (b : Bool). getD flags k false || b) (step ∙ ap (λ (b : Bool). b || rest) (ne-eqb number (k + 1) (λ e. other (omega arith))))))
+    ap (λ (b : Bool). b || rest) (getD-set-other flags (number - 1) k true false other)
+    ∙ sym (ap (λ (b : Bool). getD flags k false || b) (step ∙ ap (λ (b : Bool). b || rest) (ne-eqb number (k + 1) (λ e. other (omega arith))))))
     (cases-eq k (number - 1))
 
 pub false-right : (a : Bool) → (a || false) ≡ a

@@ -24,6 +24,11 @@ abbrev pub below : List ℕ → Bool
 below [] = true
 below (x ∷ xs) = ltb x p && below xs
 
+-- every number of every list
+abbrev pub allBelow : List (List ℕ) → Bool
+allBelow [] = true
+allBelow (xs ∷ xss) = below xs && allBelow xss
+
 -- 1/1, 1/2, .., 1/15
 abbrev pub inverses : List ℕ
 inverses =

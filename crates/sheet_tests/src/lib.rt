@@ -18,10 +18,38 @@ mod tests {
     }
 
     const SMALL: [u8; 32] = [
-        1, 3, 1, 0, 3, //
-        1, 0, 0, 0, 1, 0, 0, 0, 0, //
-        4, 0, 0, 0, 0, 0, 0, 0, 0, //
-        5, 0, 0, 0, 1, 0, 0, 0, 0,
+        1,
+        3,
+        1,
+        0,
+        3, //
+        1,
+        0,
+        0,
+        0,
+        1,
+        0,
+        0,
+        0,
+        0, //
+        4,
+        0,
+        0,
+        0,
+        0,
+        0,
+        0,
+        0,
+        0, //
+        5,
+        0,
+        0,
+        0,
+        1,
+        0,
+        0,
+        0,
+        0,
     ];
 
     // SMALL with some byte changed, and what comes of it.
@@ -88,8 +116,14 @@ mod tests {
         for length in 0..32 {
             check_eq(verdict(heap, &SMALL[0..length]), 1)?;
         }
-        check_eq(verdict(heap, &[1, 4, 2, 0, 1, 1, 0, 0, 0, 1, 0, 0, 0, 0]), 2)?;
-        check_eq(verdict(heap, &[1, 3, 1, 0, 1, 5, 0, 0, 0, 0, 0, 0, 0, 0]), 4)?;
+        check_eq(
+            verdict(heap, &[1, 4, 2, 0, 1, 1, 0, 0, 0, 1, 0, 0, 0, 0]),
+            2,
+        )?;
+        check_eq(
+            verdict(heap, &[1, 3, 1, 0, 1, 5, 0, 0, 0, 0, 0, 0, 0, 0]),
+            4,
+        )?;
         check_eq(verdict(heap, &[1, 3, 1, 0, 0]), 2)
     }
 
@@ -135,7 +169,13 @@ mod tests {
         check_eq(sheet.coins_needed(1), 2)?;
         check_eq(sheet.coins_needed(3), 1)?;
         check(sheet.result(heap, &[&[9]])?.as_slice() == &[81])?;
-        check_eq(sheet.result(heap, &[&[], &[9]]).err(), Some(Refusal::NoFigure))?;
-        check_eq(sheet.result(heap, &[&[9], &[2147483647]]).err(), Some(Refusal::OutOfRange))
+        check_eq(
+            sheet.result(heap, &[&[], &[9]]).err(),
+            Some(Refusal::NoFigure),
+        )?;
+        check_eq(
+            sheet.result(heap, &[&[9], &[2147483647]]).err(),
+            Some(Refusal::OutOfRange),
+        )
     }
 }

@@ -8,9 +8,8 @@ use lib.Dec.{ltb}
 use lib.ListN.{length, getD, drop}
 use Rattle.std.proofs.shelf.Lists.{at-drop-more, at-drop-all}
 use Rattle.std.proofs.shelf.Tests.{lt-ltb, le-ltb}
-use Rattle.field.specs.Field.{p, below}
+use Rattle.field.specs.Field.{p, below, allBelow}
 use Rattle.sheets.specs.Families.{family}
-use Rattle.sheets.specs.Meaning.{allBelow}
 
 pub below-hit : (xs : List ℕ) (i : ℕ) → i < length xs → p ≤ getD xs i 0 → false ≡ below (drop i xs)
 below-hit xs i lt le =
@@ -27,7 +26,6 @@ abbrev lentBelow : List (RefT (List ℕ)) → Bool
 lentBelow slices = allBelow (family slices)
 
 lists-step : (slices : List (RefT (List ℕ))) (i : ℕ) (d : RefT (List ℕ)) → i < length slices → lentBelow (drop i slices) ≡ below (getD slices i d .now) && lentBelow (drop (i + 1) slices)
-unfolding allBelow
 lists-step slices i d lt = at-drop-more lentBelow slices i d lt
 
 pub lists-hit : (slices : List (RefT (List ℕ))) (i : ℕ) (d : RefT (List ℕ)) → i < length slices → false ≡ below (getD slices i d .now) → false ≡ allBelow (family (drop i slices))
@@ -37,5 +35,4 @@ pub lists-more : (slices : List (RefT (List ℕ))) (i : ℕ) (d : RefT (List ℕ
 lists-more slices i d lt e = lists-step slices i d lt ∙ ap (λ (b : Bool). b && lentBelow (drop (i + 1) slices)) (sym e)
 
 pub lists-all : (slices : List (RefT (List ℕ))) (i : ℕ) → length slices ≤ i → true ≡ allBelow (family (drop i slices))
-unfolding allBelow
 lists-all slices i le = sym (at-drop-all lentBelow slices i le)

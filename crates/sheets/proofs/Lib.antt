@@ -10,3 +10,4 @@ pub mod Needed
 pub mod AllBelow
 pub mod Works
 pub mod Plainly
+pub mod Words

@@ -8,12 +8,12 @@ use lib.Dec.{T, ltb}
 use lib.ListN.{length, getD, drop}
 use Rattle.std.proofs.shelf.Lists.{append-assoc, append-nil, length-append, drop-more}
 use Rattle.std.proofs.shelf.Tests.{ltb-true, and-parts}
-use Rattle.field.specs.Field.{p, _⊕_, _⊗_, below}
+use Rattle.field.specs.Field.{p, _⊕_, _⊗_, below, allBelow}
 use Rattle.field.proofs.Below.{both-parts, both-from, below-append, below-drop, below-getD, below-from-all}
 use Rattle.field.proofs.Ring.{⊕-below, ⊗-below}
 use Rattle.sheets.specs.Families.{of}
 use Rattle.sheets.specs.Lines.{made, gives, goodLine, good}
-use Rattle.sheets.specs.Meaning.{Plain, plainMade, plainOpened, plainAfter, plainRun, figuresAfter, hasFigure, haveFigures, allBelow, result}
+use Rattle.sheets.specs.Meaning.{Plain, plainMade, plainOpened, plainAfter, plainRun, figuresAfter, hasFigure, haveFigures, result}
 use Rattle.sheets.specs.Outcome.{Worked}
 use Rattle.sheets.specs.declared.line.Line.{Line}
 use Rattle.sheets.specs.declared.line.Line.the-variants.{Input, Sum, Times, Product, Open}
@@ -30,7 +30,6 @@ pub record At (n : ℕ) (lines : List Line) (first : List (List ℕ)) (rest : Li
 
 -- all lists are below p at each member
 pub each-below : (lists : List (List ℕ)) → allBelow lists ≡ true → (j : ℕ) → T (below (of lists j))
-unfolding allBelow
 each-below lists e zero = tt
 each-below [] e (suc j) = tt
 each-below (xs ∷ xss) e (suc zero) = both-parts (below xs) (allBelow xss) (rw e tt) .0

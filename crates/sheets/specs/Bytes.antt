@@ -7,9 +7,12 @@ use Rattle.std.specs.shelf.Lists.{joined as concat}
 use Rattle.sheets.specs.declared.line.Line.{Line}
 use Rattle.sheets.specs.declared.line.Line.the-variants.{Input, Sum, Times, Product, Open}
 
--- the number in the four bytes from place i on, and the four bytes of a number
+-- the number in four bytes, also from place i of some bytes on, and the four bytes of a number
+abbrev pub word : ℕ → ℕ → ℕ → ℕ → ℕ
+word a b c d = a * 16777216 + b * 65536 + c * 256 + d
+
 abbrev pub wordAt : List ℕ → ℕ → ℕ
-wordAt bs i = getD bs i 0 * 16777216 + getD bs (i + 1) 0 * 65536 + getD bs (i + 2) 0 * 256 + getD bs (i + 3) 0
+wordAt bs i = word (getD bs i 0) (getD bs (i + 1) 0) (getD bs (i + 2) 0) (getD bs (i + 3) 0)
 
 abbrev pub wordBytes : ℕ → List ℕ
 wordBytes x = (x / 16777216 % 256) ∷ (x / 65536 % 256) ∷ (x / 256 % 256) ∷ (x % 256) ∷ []

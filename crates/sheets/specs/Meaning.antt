@@ -4,7 +4,7 @@ use mathlib.Core.List.{List, [], _∷_, _++_}
 use Prim.Native.Nat.{ℕ}
 use lib.Dec.{ltb}
 use lib.ListN.{length, getD, drop}
-use Rattle.field.specs.Field.{_⊕_, _⊗_, below}
+use Rattle.field.specs.Field.{_⊕_, _⊗_}
 use Rattle.sheets.specs.Lines.{gives}
 use Rattle.sheets.specs.declared.line.Line.{Line}
 use Rattle.sheets.specs.declared.line.Line.the-variants.{Input, Sum, Times, Product, Open}
@@ -56,8 +56,3 @@ hasFigure (Open a) figures = true
 unfoldable pub haveFigures : List Line → (ℕ → List ℕ) → Bool
 haveFigures [] figures = true
 haveFigures (l ∷ ls) figures = hasFigure l figures && haveFigures ls (figuresAfter l figures)
-
--- all numbers of all lists lie below p
-unfoldable pub allBelow : List (List ℕ) → Bool
-allBelow [] = true
-allBelow (xs ∷ xss) = below xs && allBelow xss

@@ -5,6 +5,7 @@ use mathlib.Core.Logic.{_⊎_}
 use mathlib.Core.Path.{_≡_}
 use Prim.Native.Nat.{ℕ}
 use lib.Dec.{T}
+use Rattle.field.specs.Field.{allBelow}
 use Rattle.std.specs.Of.Vec.{vec-items}
 use Rattle.std.specs.declared.alloc.Global.{Global}
 use Rattle.std.specs.declared.option.Option.the-variants.{Some, None}
@@ -13,7 +14,7 @@ use Rattle.std.specs.declared.result.Result.the-variants.{Ok, Err}
 use Rattle.std.specs.declared.vec.Vec.{Vec}
 use Rattle.sheets.specs.Families.{of}
 use Rattle.sheets.specs.Lines.{good}
-use Rattle.sheets.specs.Meaning.{hasFigure, haveFigures, figuresAfter, plainMade, plainOpened, allBelow, result}
+use Rattle.sheets.specs.Meaning.{hasFigure, haveFigures, figuresAfter, plainMade, plainOpened, result}
 use Rattle.sheets.specs.Reading.{any, malformed, lineOf, nines, verdict, membersOf, thresholdOf, linesOf}
 use Rattle.sheets.specs.declared.line.Line.{Line}
 use Rattle.sheets.specs.declared.refusal.Refusal.{Refusal}

@@ -1,10 +1,9 @@
 // Whether numbers lie below P.
 ghost use mathlib.Core.Path.{_≡_};
-ghost use Rattle.field.specs.Field.{below};
 ghost use Rattle.sheets.specs.Families.{family};
-ghost use Rattle.sheets.specs.Meaning.{allBelow};
+ghost use Rattle.field.specs.Field.{below, allBelow};
 
-fn are_below(numbers: &[u32]) -> bool
+pub fn are_below(numbers: &[u32]) -> bool
     ensures { λ r. ⌜ r ≡ below (now (numbers .entry)) ⌝ }
 {
     for number in numbers {

@@ -1,7 +1,9 @@
 // Why something is refused. Each cause has a number, and of several the lowest is given.
 ghost use mathlib.Core.Path.{_≡_};
 ghost use Rattle.sheets.specs.Refusals.{numberOf, causeOf, told};
+ghost use Rattle.sheets.specs.declared.refusal.Refusal.the-variants.{NoMemory};
 ghost use Rattle.std.specs.declared.option.Option.the-variants.{Some};
+use std::alloc::AllocError;
 use std::fmt;
 
 #[derive(Clone, Copy, PartialEq, Eq, Debug)]
@@ -63,6 +65,15 @@ impl Refusal {
             Refusal::NoCoins => "coins are used up",
             Refusal::TooManyInputs => "more than 1024 input lines",
         }
+    }
+}
+
+// Want of memory, so that `?` hands it on.
+pub impl From<AllocError> for Refusal as RefusalFromAllocError {
+    ghost converts = { λ _ r. r ≡ NoMemory };
+
+    fn from(_: AllocError) -> Refusal {
+        Refusal::NoMemory
     }
 }
 

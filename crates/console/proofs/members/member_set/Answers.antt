@@ -19,15 +19,17 @@ loop-number-again c =
     let numbers = c .args .numbers .now in
     let i = c .loop-number .number-index in
     let number = getD numbers i 0 in
-    let within = inside (c .args .n) number (c .if-is-outside .ensures tt) in
-    (c .loop-number .inv .0 ∙ any-more (outside (c .args .n)) numbers i 0 (c .loop-number-test .taken) (c .if-is-outside .ensures tt),
-    length-set (c .loop-number .set) (number - 1) true ∙ c .loop-number .inv .1,
-    λ k lt. set-more (c .loop-number .set) numbers i number k (c .loop-number .inv .1) lt (within .0) (within .1) (c .loop-number-test .taken) refl ∙ c .loop-number .inv .2 k lt)
+    let within = inside (c .args .n) number (c .if-is-outside .ensures tt) in (
+      c .loop-number .inv .0 ∙ any-more (outside (c .args .n)) numbers i 0 (c .loop-number-test .taken) (c .if-is-outside .ensures tt),
+      length-set (c .loop-number .set) (number - 1) true ∙ c .loop-number .inv .1,
+      λ k lt. set-more (c .loop-number .set) numbers i number k (c .loop-number .inv .1) lt (within .0) (within .1) (c .loop-number-test .taken) refl ∙ c .loop-number .inv .2 k lt,
+    )
 
 pub returns : need.returns
 returns c =
     let numbers = c .args .numbers .now in
-    let i = c .loop-number .number-index in
-    (c .loop-number .inv .0 ∙ sym (any-all (outside (c .args .n)) numbers i (c .loop-number-test .left)),
-    c .loop-number .inv .1,
-    λ k lt. sym (false-right (getD (c .loop-number .set) k false)) ∙ (ap (λ (b : Bool). getD (c .loop-number .set) k false || b) (any-all (λ (x : ℕ). eqb x (k + 1)) numbers i (c .loop-number-test .left)) ∙ c .loop-number .inv .2 k lt))
+    let i = c .loop-number .number-index in (
+      c .loop-number .inv .0 ∙ sym (any-all (outside (c .args .n)) numbers i (c .loop-number-test .left)),
+      c .loop-number .inv .1,
+      λ k lt. sym (false-right (getD (c .loop-number .set) k false)) ∙ (ap (λ (b : Bool). getD (c .loop-number .set) k false || b) (any-all (λ (x : ℕ). eqb x (k + 1)) numbers i (c .loop-number-test .left)) ∙ c .loop-number .inv .2 k lt),
+    )

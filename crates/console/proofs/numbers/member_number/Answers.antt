@@ -17,11 +17,12 @@ returns-in-rest c =
 
 pub loop-byte-again : need.loop-byte-again
 loop-byte-again c =
-    let word = c .args .word .now in
-    (c .loop-byte .inv .0
-    ∙ (read-more word (c .loop-byte .byte-index) (c .loop-byte .number) (c .in-Some .digit) (c .loop-byte-test .taken) (c .in-Some .ensures tt)
-    ∙ ap (λ (k : ℕ). readOn (Some k) (drop (c .loop-byte .byte-index + 1) word)) (sym (c .min-number .ensures))),
-    omega (arith, c .min-number .ensures))
+    let word = c .args .word .now in (
+      c .loop-byte .inv .0
+          ∙ (read-more word (c .loop-byte .byte-index) (c .loop-byte .number) (c .in-Some .digit) (c .loop-byte-test .taken) (c .in-Some .ensures tt)
+          ∙ ap (λ (k : ℕ). readOn (Some k) (drop (c .loop-byte .byte-index + 1) word)) (sym (c .min-number .ensures))),
+      omega (arith, c .min-number .ensures),
+    )
 
 pub returns : need.returns
 returns c =

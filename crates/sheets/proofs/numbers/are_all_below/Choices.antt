@@ -1,7 +1,7 @@
 use mathlib.Core.Path.{_≡_}
 use lib.ListN.{drop}
+use Rattle.field.specs.Field.{allBelow}
 use Rattle.sheets.specs.Families.{family}
-use Rattle.sheets.specs.Meaning.{allBelow}
 use Rattle.sheets.proofs.numbers.are_all_below.Given as given
 
 abbrev pub Inv-loop-list : given.InvT-loop-list
