@@ -1,20 +1,25 @@
 // Sets of members, as the words of the command line name them.
+ghost use mathlib.Core.List.{map};
 ghost use mathlib.Core.Path.{_≡_};
-ghost use Rattle.console.specs.Numbers.{outside, SetOf};
+ghost use Rattle.console.specs.Numbers.{outside, SetOf, WordsAs};
+ghost use Rattle.std.specs.Of.String.{string-bytes};
 use crate::failure::Failure;
-use crate::failure::FailureFromAlloc;
-use crate::failure::FailureFromRefused;
 use crate::numbers::member_number;
+use sheets::Refusal;
 use std::alloc::Global;
 
 // The numbers in the words, or none if a word is no decimal number.
-pub fn member_words(heap: Global, words: &[String]) -> Result<Option<Vec<u32>>, Failure> {
+pub fn member_words(heap: Global, words: &[String]) -> Result<Option<Vec<u32>>, Failure>
+    ensures { λ r. ⌜ WordsAs (map string-bytes (now (words .entry))) r ⌝ }
+{
     let mut numbers = Vec::new(heap);
     for word in words {
         let Some(number) = member_number(word.as_bytes()) else {
             return Ok(None);
         };
-        numbers.push(number)?;
+        let Ok(()) = numbers.push(number) else {
+            return Err(Failure::Refused(Refusal::NoMemory));
+        };
     }
     Ok(Some(numbers))
 }
