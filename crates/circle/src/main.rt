@@ -4,6 +4,7 @@ use console::FailureDisplay;
 use console::FailureFromAlloc;
 use console::FailureFromIo;
 use console::FailureFromRefusal;
+use runs::Outcome;
 use sheets::Refusal;
 use sheets::Sheet;
 use std::io::BufWriter;
@@ -27,18 +28,26 @@ fn play(rt: &LibcRuntime, words: &[String]) -> Result<(), Failure> {
         &console::file(rt, inputs.as_str())?,
     )?;
     let _ = files::read_order(heap, &console::file(rt, order.as_str())?)?;
-    let Some(_) = console::member_set(sheet.members(), &watched) else {
+    let Some(set) = console::member_set(sheet.members(), &watched) else {
         return Err(Failure::Refused(Refusal::WrongAddress));
     };
     let figures = files::lend(heap, &inputs.figures)?;
-    print(rt, &sheet.result(heap, &figures)?)
+    let coins = files::lend(heap, &inputs.coins)?;
+    let outcome = runs::run(heap, &sheet, &figures, &coins, &set)?;
+    print(rt, &outcome, watched.len() > 0)
 }
 
-// One number to a line.
-fn print(rt: &LibcRuntime, opened: &[u32]) -> Result<(), Failure> {
+// What was opened, one number to a line; where members are watched, an empty line and what they see.
+fn print(rt: &LibcRuntime, outcome: &Outcome, watched: bool) -> Result<(), Failure> {
     let mut out = BufWriter::new(rt.stdout());
-    for number in opened {
+    for number in outcome.opened.as_slice() {
         writeln!(out, "{number}")?;
+    }
+    if watched {
+        writeln!(out, "")?;
+        for number in outcome.seen.as_slice() {
+            writeln!(out, "{number}")?;
+        }
     }
     Ok(out.flush()?)
 }

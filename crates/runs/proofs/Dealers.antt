@@ -52,14 +52,14 @@ each-dealer P z (Open a) h = tt
 abbrev pub Below : (ℕ → List ℕ) → Type 0
 Below family = (i : ℕ) → T (below (family i))
 
-below-after : (b : Bool) (k : ℕ) (xs : List ℕ) → T (below xs) → T (below (cond b (drop k xs) xs))
+pub below-after : (b : Bool) (k : ℕ) (xs : List ℕ) → T (below xs) → T (below (cond b (drop k xs) xs))
 below-after true k xs t = below-drop k xs t
 below-after false k xs t = t
 
 pub figures-below-after : (l : Line) (figures : ℕ → List ℕ) → Below figures → Below (figuresAfter l figures)
 figures-below-after l figures h i = below-after (gives l i) 1 (figures i) (h i)
 
-enough-after : (b : Bool) (t k : ℕ) (xs : List ℕ) → cond b t 0 + k ≤ length xs → k ≤ length (cond b (drop t xs) xs)
+pub enough-after : (b : Bool) (t k : ℕ) (xs : List ℕ) → cond b t 0 + k ≤ length xs → k ≤ length (cond b (drop t xs) xs)
 enough-after true t k xs le = simp length-drop (omega arith)
 enough-after false t k xs le = omega arith
 
@@ -70,7 +70,7 @@ coins-after z l ls coins h = record {
   reduced = λ i. below-after (deals z l i) (z .t) (coins i) (h .reduced i);
 }
 
-enough-now : (b : Bool) (t k n : ℕ) → T b → cond b t 0 + k ≤ n → t ≤ n
+pub enough-now : (b : Bool) (t k n : ℕ) → T b → cond b t 0 + k ≤ n → t ≤ n
 enough-now true t k n d le = omega arith
 enough-now false t k n d le = absurd d
 

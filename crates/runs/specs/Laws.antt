@@ -1,10 +1,11 @@
--- The two theorems of a sheet done on shares: it is right, and nobody learns more.
+-- The theorems of a sheet done on shares: it is right, nobody learns more, and what it takes.
 use mathlib.Core.Bool.{Bool}
 use mathlib.Core.List.{List}
 use mathlib.Core.Path.{_≡_}
 use Prim.Native.Nat.{ℕ, _+_, _<_, _≤_}
 use lib.Dec.{T}
 use lib.ListN.{length, getD, take, drop}
+use Rattle.std.specs.declared.option.Option.the-variants.{None}
 use Rattle.field.specs.Field.{below}
 use Rattle.shares.specs.Circle.{Circle, Fits}
 use Rattle.shares.specs.Polynomial.{value}
@@ -14,6 +15,7 @@ use Rattle.sheets.specs.declared.line.Line.{Line}
 use Rattle.runs.specs.Run.{begun, share, final, opens}
 use Rattle.runs.specs.Seen.{sees, howMany}
 use Rattle.runs.specs.Pairing.{there}
+use Rattle.runs.specs.Short.{runsOut}
 
 -- at least as many figures (coins) of each member as its lines take, each below p
 pub record Figures (ls : List Line) (figures : ℕ → List ℕ) : Type 0 where
@@ -75,3 +77,13 @@ Fewer =
     (z : Circle) (c d : ℕ → Bool) → ((i : ℕ) → T (c i) → T (d i)) → (ls : List Line) →
     (figures figures′ coins coins′ : ℕ → List ℕ) → Figures ls figures → Figures ls figures′ → Coins z ls coins → Coins z ls coins′ →
     sees z d ls figures coins ≡ sees z d ls figures′ coins′ → sees z c ls figures coins ≡ sees z c ls figures′ coins′
+
+-- ENOUGH: nothing runs out if and only if each member has as many figures and coins as its lines take.
+pub record Suffice (z : Circle) (ls : List Line) (figures coins : ℕ → List ℕ) : Type 0 where
+  pub figures-enough : (i : ℕ) → figuresNeeded i ls ≤ length (figures i)
+  pub coins-enough : (i : ℕ) → coinsNeeded z i ls ≤ length (coins i)
+
+abbrev pub Enough : Type 0
+Enough =
+    (z : Circle) (ls : List Line) (figures coins : ℕ → List ℕ) →
+    (runsOut z ls figures coins ≡ None → Suffice z ls figures coins) × (Suffice z ls figures coins → runsOut z ls figures coins ≡ None)

@@ -1,5 +1,5 @@
 // The theorems of a sheet done on shares: each function's contract is one.
-ghost use Rattle.runs.specs.Laws.{Right, Alike, Fewer};
+ghost use Rattle.runs.specs.Laws.{Right, Alike, Fewer, Enough};
 
 // What is opened is what the sheet says, for all coins.
 pub fn right_law()
@@ -14,4 +14,9 @@ pub fn alike_law()
 // Fewer watched see no more.
 pub fn fewer_law()
     ensures { λ _. ⌜ Fewer ⌝ }
+{}
+
+// Nothing runs out if and only if each member has what its lines take.
+pub fn enough_law()
+    ensures { λ _. ⌜ Enough ⌝ }
 {}
