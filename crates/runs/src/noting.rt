@@ -81,7 +81,7 @@ pub(crate) fn note_coins(
 }
 
 // A member's list, which is empty for who has none.
-fn list_of<'a>(lists: &[&'a [u32]], member: u32) -> &'a [u32]
+pub(crate) fn list_of<'a>(lists: &[&'a [u32]], member: u32) -> &'a [u32]
     ensures { λ r. ⌜ now r ≡ of (family (now (lists .entry))) member ⌝ }
 {
     if member == 0 || member as usize > lists.len() {

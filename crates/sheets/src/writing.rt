@@ -13,7 +13,7 @@ use crate::sheet::Sheet;
 
 impl Line {
     // Its nine bytes.
-    pub(crate) fn write(self) -> [u8; 9]
+    pub fn write(self) -> [u8; 9]
         ensures { λ r. ⌜ r ≡ lineBytes self ⌝ }
     {
         match self {
