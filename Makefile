@@ -1,4 +1,4 @@
-.PHONY: demo test bench
+.PHONY: demo test bench compare
 
 EXAMPLE = target/example
 
@@ -17,6 +17,11 @@ test:
 bench: tools-needed
 	@tools/bench
 
+# Plays the built programs against an independent model in Rust, on some thousand seeded cases.
+compare:
+	@cd compare && cargo build --quiet --release --offline
+	@compare/target/release/compare target/bin
+
 .PHONY: tools-needed
 tools-needed:
-	@command -v python3 > /dev/null || apt-get install -y python3 > /dev/null
+	@command -v python3 > /dev/null || { apt-get update && apt-get install -y python3; } > /dev/null

@@ -53,7 +53,7 @@ fn print(rt: &LibcRuntime, outcome: &Outcome, watched: bool) -> Result<(), Failu
 }
 
 fn run(rt: &LibcRuntime) -> Result<(), Failure> {
-    let words = console::arguments(rt)?;
+    let words = console::arguments(rt, USAGE)?;
     if let [word] = words.as_slice()
         && word.as_str() == "--help"
     {

@@ -5,10 +5,10 @@ use crate::failure::FailureFromRefused;
 use std::env;
 use std::fs;
 
-// All words after the program's own name.
-pub fn arguments(rt: &LibcRuntime) -> Result<Vec<String>, Failure> {
+// All words after the program's own name. A word that is no text is wrong use.
+pub fn arguments(rt: &LibcRuntime, usage: &'static str) -> Result<Vec<String>, Failure> {
     let Ok(args) = env::args(rt) else {
-        return Err(Failure::NoOutput);
+        return Err(Failure::Usage(usage));
     };
     let mut words = Vec::new(rt.alloc());
     for word in args.skip(1) {

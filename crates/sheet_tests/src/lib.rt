@@ -149,10 +149,9 @@ mod tests {
         check_eq(verdict(heap, &long(heap, 1024, 1025)?), 99)?;
         check_eq(verdict(heap, &long(heap, 1025, 1026)?), 12)?;
         let mut unknown = long(heap, 1, 4097)?;
-        let _ = unknown.pop();
-        let _ = unknown.pop();
-        unknown.extend_from_slice(&[0, 0])?;
-        check_eq(verdict(heap, &unknown), 2)
+        unknown.truncate(5 + 9 * 4096);
+        unknown.extend_from_slice(&[9, 0, 0, 0, 0, 0, 0, 0, 0])?;
+        check_eq(verdict(heap, &unknown), 1)
     }
 
     #[test]
