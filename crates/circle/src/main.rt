@@ -1,4 +1,6 @@
 // Plays all members of a circle in memory.
+#![tactic(auto)]
+
 use console::Failure;
 use runs::Outcome;
 use sheets::{Refusal, Sheet};

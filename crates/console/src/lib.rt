@@ -1,4 +1,6 @@
 // What the programs have in common: words of the command line, files, and how a failure is told.
+#![tactic(auto)]
+
 mod failure;
 mod input;
 mod members;

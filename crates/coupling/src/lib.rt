@@ -1,4 +1,6 @@
 // Two runs of a sheet side by side, the second with the coins that are paired with those of the first.
+#![tactic(auto)]
+
 mod advancing;
 mod appending;
 mod couple;

@@ -1,4 +1,6 @@
 // Arithmetic modulo the prime P = 2^31 - 1.
+#![tactic(auto)]
+
 ghost use Rattle.std.specs.Prelude.{◌≡◌, ◌<◌, ◌≤◌};
 ghost use Rattle.field.specs.Field.{p, ◌⊕◌, ◌⊗◌, neg, inv};
 ghost use Rattle.field.specs.Laws.{Inverses};

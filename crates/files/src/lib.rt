@@ -1,4 +1,6 @@
 // The binary files: figures, coins, the inputs of a whole circle, and orders of delivery.
+#![tactic(auto)]
+
 mod circle;
 mod coins;
 mod figures;

@@ -1,4 +1,6 @@
 // The polynomial that is 1 at 0 and 0 at each watched member, and coins shifted by multiples of it.
+#![tactic(auto)]
+
 ghost use Rattle.std.specs.Prelude.{◌≡◌, ℕ, ◌+◌, ◌<◌, ◌≤◌, T, length, filter, slice_index, slice_index_or};
 ghost use Rattle.field.specs.Field.{p, ◌⊕◌, ◌⊗◌, below};
 ghost use Rattle.masks.specs.Coefficients.{coefficient, Holds};

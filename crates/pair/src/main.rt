@@ -1,4 +1,6 @@
 // Tells the coins of another story that looks the same to the watched.
+#![tactic(auto)]
+
 use console::Failure;
 use pairing::Pairing;
 use sheets::Sheet;

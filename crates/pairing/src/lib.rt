@@ -1,4 +1,6 @@
 // The coins of another story: those of a run with other figures that looks the same to the watched.
+#![tactic(auto)]
+
 mod answer;
 mod calling;
 mod concluding;

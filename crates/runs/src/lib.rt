@@ -1,4 +1,6 @@
 // A sheet done on shares, for all members in memory.
+#![tactic(auto)]
+
 mod dealing;
 mod doing;
 mod inputs;

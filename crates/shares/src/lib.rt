@@ -1,4 +1,6 @@
 // Shamir's secret sharing: dealing a number to n members under t coins, and joining their shares again.
+#![tactic(auto)]
+
 mod dealing;
 mod joining;
 mod laws;

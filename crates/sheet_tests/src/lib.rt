@@ -1,4 +1,6 @@
 // Tests of the crate `sheets`, in a crate of their own so that they are not proved with it again and again.
+#![tactic(auto)]
+
 #[cfg(test)]
 mod tests {
     use sheets::{Refusal, Sheet};

@@ -1,4 +1,6 @@
 // Sheets: arithmetic circuits, line by line.
+#![tactic(auto)]
+
 mod drawing;
 mod judging;
 mod laws;
