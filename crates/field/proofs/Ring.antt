@@ -1,6 +1,6 @@
 -- The numbers modulo p are a commutative ring. `simp ring` proves an identity of sums and products of
 -- variables; what concerns 0, 1 and `%` is kept apart in `plain`, since the two sets undo each other.
-use Rattle.std.proofs.Common.{◌≡◌, ℕ, ◌+◌, ◌-◌, ◌*◌, ◌/◌, ◌%◌, ◌<◌, sym, refl, ap, ◌∙◌, add_assoc, mod-lt, mod-eq_of_lt, mul_assoc, mul_comm, add-mul, add_comm, mul-add, arith, lit<}
+use Rattle.std.proofs.Common.{◌≡◌, ℕ, ◌+◌, ◌-◌, ◌*◌, ◌/◌, ◌%◌, ◌<◌, sym, ap, ◌∙◌, add_assoc, mod-lt, mod-eq_of_lt, mul_assoc, mul_comm, add-mul, add_comm, mul-add, arith, lit<}
 use native.Mathlib.Nat.{mod-add-mod, add-mod-mod, mod-mod, div-add-mod, mul-add-mod_self_left}
 use Rattle.field.specs.Field.{p, ◌⊕◌, ◌⊗◌, neg}
 

@@ -1,15 +1,15 @@
 -- The weights give back the constant. For each k up to 15 and each exponent e below k, the weighted sum of the
 -- e-th powers of 1 to k is the e-th power of 0: one table that the checker computes. Linearity does the rest.
-use Rattle.std.proofs.Common.{◌≡◌, ℕ, zero, suc, ◌+◌, ◌<◌, ◌≤◌, Bool, true, eqb, List, [], ◌∷◌, map, length, take, sym, refl, ap, ◌∙◌, ap₂, arith}
+use Rattle.std.proofs.Common.{◌≡◌, ℕ, zero, suc, ◌+◌, ◌<◌, ◌≤◌, Bool, true, eqb, List, [], ◌∷◌, map, length, sym, refl, ap, ◌∙◌, ap₂, arith}
 use mathlib.Core.Path.{fun_ext}
 use Rattle.std.proofs.lemmas.List.FromFn.{take-map-range_with_len}
 use Rattle.std.proofs.lemmas.Bool.{eqb-true}
 use Rattle.field.specs.Field.{p, ◌⊕◌, ◌⊗◌}
 use Rattle.field.proofs.Ring.{ring, reduced, 1-⊗, ⊕-0, 0-⊗, ⊗-0}
 use Rattle.field.proofs.Table.{every_below, at_place}
-use Rattle.shares.specs.Circle.{Circle, m, Fits, members}
+use Rattle.shares.specs.Circle.{m, members}
 use Rattle.shares.specs.Laws.{Recombine, Shared}
-use Rattle.shares.specs.Polynomial.{value, dealt}
+use Rattle.shares.specs.Polynomial.{value}
 use Rattle.shares.specs.Weights.{weight_among, weights, dot}
 use Rattle.shares.proofs.Dots.{dot_zeros, dot_linear}
 use Rattle.shares.proofs.Values.{value-cons, value-below}

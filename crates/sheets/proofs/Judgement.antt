@@ -1,5 +1,5 @@
 -- The verdict on a sheet's bytes is its lowest fault: each test decides its fault, and the tests stand in order.
-use Rattle.std.proofs.Common.{◌≡◌, ℕ, zero, suc, ◌+◌, ◌*◌, ◌<◌, ◌≤◌, Bool, true, false, cond, not, ◌&&◌, ◌||◌, eqb, ltb, leb, ◌⊎◌, List, [], ◌∷◌, length, get_or, take, drop, Some, None, Decides, Option, sym, refl, ap, ◌∙◌, subst, inl, inr, ⊎_elim, le_of_suc-le-suc, not-suc-le-zero, arith}
+use Rattle.std.proofs.Common.{◌≡◌, ℕ, zero, suc, ◌+◌, ◌*◌, ◌<◌, ◌≤◌, Bool, cond, not, ◌&&◌, ◌||◌, eqb, ltb, leb, ◌⊎◌, List, [], ◌∷◌, length, get_or, take, drop, Some, None, Decides, Option, refl, ◌∙◌, subst, inl, inr, le_of_suc-le-suc, not-suc-le-zero, arith}
 use Rattle.std.proofs.lemmas.List.{length-map, get_or_default}
 use Rattle.std.proofs.lemmas.Bool.{leb-true, le-leb}
 use Rattle.std.proofs.lemmas.Bool.Decides.{Decides-eqb, Decides-ltb, Decides-not, Decides-and, Decides-or, Decides-like, Decides-by_or}
@@ -7,7 +7,7 @@ use Rattle.field.specs.Field.{p}
 use Rattle.sheets.specs.Faults.{BadPart, BadForm, WrongSize, TooLarge, NotThere, made_by, line_at, Fault}
 use Rattle.sheets.specs.Laws.{Judgement}
 use Rattle.sheets.specs.Lines.{made}
-use Rattle.sheets.specs.Reading.{any, kind_of, second_of, malformed, line_of, nines, members_of, threshold_of, count_of, parts_of, lines_of, malformed_sheet, bad_shape, out_of_range, undefined, any_undefined, inputs, verdict_on, verdict}
+use Rattle.sheets.specs.Reading.{any, kind_of, second_of, malformed, line_of, members_of, threshold_of, count_of, parts_of, lines_of, malformed_sheet, bad_shape, out_of_range, undefined, any_undefined, inputs, verdict}
 use Rattle.sheets.specs.declared.line.Line.{Line}
 use Rattle.sheets.specs.declared.line.Line.TheVariants.{Input, Sum, Times, Product, Open}
 use Rattle.sheets.specs.Refusals.{number_of}

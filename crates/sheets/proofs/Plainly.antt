@@ -1,9 +1,9 @@
 -- The plain run with the lines that are left: what was opened, followed by what they open, is the whole.
-use Rattle.std.proofs.Common.{◌≡◌, ℕ, zero, suc, ◌+◌, ◌<◌, ◌≤◌, Bool, true, false, cond, ◌&&◌, T, ltb, List, [], ◌∷◌, ◌++◌, length, get_or, drop, sym, refl, ap, ◌∙◌, subst, ap₂, arith}
+use Rattle.std.proofs.Common.{◌≡◌, ℕ, zero, suc, ◌+◌, ◌<◌, Bool, true, false, cond, ◌&&◌, T, List, [], ◌∷◌, ◌++◌, length, get_or, drop, sym, refl, ap, ◌∙◌, subst, ap₂}
 use Rattle.std.proofs.lemmas.List.{append_assoc, append-nil, length-append, drop_more}
 use Rattle.std.proofs.lemmas.Bool.{ltb-true, and_parts}
 use Rattle.field.specs.Field.{p, ◌⊕◌, ◌⊗◌, below, all_below}
-use Rattle.field.proofs.Below.{both_parts, both_from, below-append, below-drop, below-get_or, below-from_all}
+use Rattle.field.proofs.Below.{both_parts, below-append, below-drop, below-get_or, below-from_all}
 use Rattle.field.proofs.Ring.{⊕-below, ⊗-below}
 use Rattle.sheets.specs.Families.{of}
 use Rattle.sheets.specs.Lines.{made, gives, good_line, good}

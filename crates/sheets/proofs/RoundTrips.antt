@@ -6,10 +6,10 @@ use Rattle.std.proofs.lemmas.List.{drop_more, drop_all, nil_from_length, length-
 use Rattle.std.proofs.ByRecursion.{All-get_or, All-take, All-drop}
 use Rattle.std.proofs.lemmas.Bool.Decides.{nat_tests}
 use Rattle.field.specs.Field.{p}
-use Rattle.sheets.specs.Bytes.{word_at, word_bytes, raw_bytes, line_bytes, head_bytes, sheet_bytes}
-use Rattle.sheets.specs.Laws.{Rewritten, Reread, Sound, ReadBack}
+use Rattle.sheets.specs.Bytes.{raw_bytes, line_bytes, sheet_bytes}
+use Rattle.sheets.specs.Laws.{Rewritten, Reread}
 use Rattle.sheets.specs.Lines.{made, good_line, good}
-use Rattle.sheets.specs.Reading.{any, kind_of, first_of, second_of, malformed, line_of, nines, members_of, threshold_of, count_of, parts_of, lines_of, malformed_sheet, bad_shape, out_of_range, undefined, any_undefined, inputs, verdict_on, verdict}
+use Rattle.sheets.specs.Reading.{any, kind_of, first_of, second_of, malformed, line_of, nines, count_of, parts_of, lines_of, malformed_sheet, bad_shape, out_of_range, undefined, any_undefined, inputs, verdict_on}
 use Rattle.sheets.specs.declared.line.Line.{Line}
 use Rattle.sheets.specs.declared.line.Line.TheVariants.{Input, Sum, Times, Product, Open}
 use Rattle.sheets.specs.declared.refusal.Refusal.TheVariants.{Malformed, BadShape, OutOfRange, NotMadeYet, TooManyInputs}

@@ -1,5 +1,5 @@
 -- Numbers and their four bytes give each other back.
-use Rattle.std.proofs.Common.{◌≡◌, ℕ, ◌+◌, ◌*◌, ◌/◌, ◌%◌, ◌<◌, List, [], ◌∷◌, sym, ap, ◌∙◌, ap₂, arith}
+use Rattle.std.proofs.Common.{◌≡◌, ℕ, ◌+◌, ◌*◌, ◌/◌, ◌%◌, ◌<◌, [], ◌∷◌, sym, ap, ◌∙◌, ap₂, arith}
 use native.Mathlib.Nat.{div-div-eq-div-mul}
 use Rattle.sheets.specs.Bytes.{word, word_bytes}
 

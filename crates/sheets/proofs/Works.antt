@@ -1,5 +1,5 @@
 -- Lines in the plain, one after the other.
-use Rattle.std.proofs.Common.{◌≡◌, ℕ, ◌+◌, ◌<◌, ◌≤◌, Bool, true, false, ◌&&◌, T, ltb, List, [], ◌∷◌, ◌++◌, length, get_or, take, Ok, Err, Result, sym, refl, ap, ◌∙◌, subst, inl, inr, arith, ltb→lt}
+use Rattle.std.proofs.Common.{◌≡◌, ℕ, ◌<◌, ◌≤◌, T, ltb, List, [], ◌∷◌, ◌++◌, length, get_or, take, Ok, Err, Result, sym, ap, ◌∙◌, subst, inl, arith, ltb→lt}
 use Rattle.std.proofs.lemmas.List.{get_or-take, append-nil, get_or_read}
 use Rattle.std.proofs.lemmas.Bool.{lt-ltb}
 use Rattle.field.specs.Field.{p, below}

@@ -1,5 +1,5 @@
 -- What the readers of sheets answer.
-use Rattle.std.specs.Prelude.{◌≡◌, ℕ, Bool, true, false, T, ◌⊎◌, List, [], ◌++◌, map, Some, None, Ok, Err, vec_items, Result, Vec}
+use Rattle.std.specs.Prelude.{◌≡◌, ℕ, true, false, T, ◌⊎◌, List, [], ◌++◌, map, Some, None, Ok, Err, vec_items, Result, Vec}
 use Rattle.field.specs.Field.{all_below}
 use Rattle.std.specs.declared.alloc.Global.{Global}
 use Rattle.sheets.specs.Families.{of}

@@ -4,11 +4,11 @@ use Rattle.console.specs.Numbers.{read_on}
 use Rattle.console.proofs.Digits.{number_of, read_more, read_bad, read_all}
 use Rattle.console.proofs.numbers.member_number.Goals as goal
 
-pub returns-in-default : goal.returns-in-default
-returns-in-default c =
+pub returns-in_default : goal.returns-in_default
+returns-in_default c =
     let word = c.args.word.now in
-    read_bad word c.loop-byte.byte-index c.loop-byte.number c.loop-byte-test.true c.in-default.ensures
-    ∙ (sym c.loop-byte.invariant.0 ∙ sym (number_of word (eqb-false (length word) 0 (sym c.if-is-empty.ensures))))
+    read_bad word c.loop-byte.byte-index c.loop-byte.number c.loop-byte-test.true c.in_default.ensures
+    ∙ (sym c.loop-byte.invariant.0 ∙ sym (number_of word (eqb-false (length word) 0 (sym c.if-is_empty.ensures))))
 
 pub loop-byte-preserved : goal.loop-byte-preserved
 loop-byte-preserved c =
@@ -23,4 +23,4 @@ pub returns : goal.returns
 returns c =
     let word = c.args.word.now in
     read_all word c.loop-byte.byte-index c.loop-byte.number c.loop-byte-test.false
-    ∙ (sym c.loop-byte.invariant.0 ∙ sym (number_of word (eqb-false (length word) 0 (sym c.if-is-empty.ensures))))
+    ∙ (sym c.loop-byte.invariant.0 ∙ sym (number_of word (eqb-false (length word) 0 (sym c.if-is_empty.ensures))))

@@ -15,10 +15,10 @@ loop-k-preserved c =
     let k : ℕ = c.loop-k.k in
     let few : k < length (vec_items c.loop-k.lists) = search rules in
     let wide : k < length now = simp length-map few in
-    let held : vec_items c.index-mut.result.now ≡ get_or now k [] = read_through vec_items (vec_items c.loop-k.lists) k c.index-mut.result.now few c.index-mut.ensures.value in
+    let held : vec_items c.index_mut.result.now ≡ get_or now k [] = read_through vec_items (vec_items c.loop-k.lists) k c.index_mut.result.now few c.index_mut.ensures.value in
     let added = at_place c.args.more.now k _ refl in
-    partly_more (lists c.args.lists.now) (family c.args.more.now) now _ k (vec_items c.extend-from-slice.new.self) wide
-    (map-set vec_items (vec_items c.loop-k.lists) k c.extend-from-slice.new.self)
+    partly_more (lists c.args.lists.now) (family c.args.more.now) now _ k (vec_items c.extend_from_slice.new.self) wide
+    (map-set vec_items (vec_items c.loop-k.lists) k c.extend_from_slice.new.self)
     (c.in-Ok.ensures.items ∙ ap₂ (λ (xs ys : List ℕ). xs ++ ys) held added) c.loop-k.invariant
 
 pub returns : goal.returns

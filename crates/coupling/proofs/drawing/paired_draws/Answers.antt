@@ -11,11 +11,11 @@ use Rattle.coupling.proofs.drawing.paired_draws.Goals as goal
 pub shift-requires : goal.shift-requires
 shift-requires c =
     let z = circle_in c.args.setup.now in
-    let list : List ℕ = c.list-of.result.now in
+    let list : List ℕ = c.list_of.result.now in
     let few : c.args.setup.now.t ≤ 7 = omega arith in
-    let count : c.coins-of-count.result ≤ 7 = counted_few (deals z c.args.line (c.loop-i.i + 1)) c.args.setup.now.t c.coins-of-count.result 7 (λ d. few) c.coins-of-count.ensures in (
+    let count : c.coins_of-count.result ≤ 7 = counted_few (deals z c.args.line (c.loop-i.i + 1)) c.args.setup.now.t c.coins_of-count.result 7 (λ d. few) c.coins_of-count.ensures in (
       simp length-take (omega arith),
-      below-take (c.coins-of-count.result - 0) list (subst (λ (xs : List ℕ). T (below xs)) (sym c.list-of.ensures) (c.requires.coins_small (c.loop-i.i + 1))),
+      below-take (c.coins_of-count.result - 0) list (subst (λ (xs : List ℕ). T (below xs)) (sym c.list_of.ensures) (c.requires.coins_small (c.loop-i.i + 1))),
     )
 
 pub loop-i-preserved : goal.loop-i-preserved
@@ -24,15 +24,15 @@ loop-i-preserved c = (
   all_below-set c.loop-i.draws c.loop-i.i c.shift.result c.shift.ensures.small c.loop-i.invariant.1,
   λ s s' e h h'.
       let z = circle_in c.args.setup.now in
-      let list : List ℕ = c.list-of.result.now in
+      let list : List ℕ = c.list_of.result.now in
       let i : ℕ = c.loop-i.i in
       let few : z.t ≤ 7 = omega arith in
       let seven : length c.shift.result ≡ 7 = search rules in
       place_more (Draw z c.args.mask.now c.args.line s s') c.loop-i.draws c.shift.result i (omega arith) (c.loop-i.invariant.2 s s' e h h')
-      (draw_is z c.args.mask.now c.args.line s s' i c.sum.result c.secret-less.result c.secret-more.result c.coins-of-count.result list c.shift.result
+      (draw_is z c.args.mask.now c.args.line s s' i c.sum.result c.secret-less.result c.secret-more.result c.coins_of-count.result list c.shift.result
       few c.told-mask seven
-      (λ d. subst (λ (xs : List ℕ). z.t ≤ length xs) (sym c.list-of.ensures) (c.requires.enough (i + 1) d))
-      c.coins-of-count.ensures (c.list-of.ensures ∙ ap (λ (f : ℕ → List ℕ). f (i + 1)) e)
+      (λ d. subst (λ (xs : List ℕ). z.t ≤ length xs) (sym c.list_of.ensures) (c.requires.enough (i + 1) d))
+      c.coins_of-count.ensures (c.list_of.ensures ∙ ap (λ (f : ℕ → List ℕ). f (i + 1)) e)
       (c.secret-less.ensures.value s h) (c.secret-more.ensures.value s' h')
       (c.sum.ensures.0 ∙ ap (λ (x : ℕ). c.secret-more.result ⊕ x) c.negative.ensures.0) c.shift.ensures.places),
 )

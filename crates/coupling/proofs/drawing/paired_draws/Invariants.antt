@@ -11,5 +11,5 @@ abbrev pub invariant-loop-i : goal.invariant-loop-i
 invariant-loop-i l =
     (length l.draws ≡ 15)
     × T (all_below l.draws)
-    × ((s s' : State) → of (family l.coins) ≡ s.coins → Side s l.held (of (family l.figures)) → Side s' l.other-held (of (family l.other-figures)) →
+    × ((s s' : State) → of (family l.coins) ≡ s.coins → Side s l.held (of (family l.figures)) → Side s' l.other_held (of (family l.other_figures)) →
     (k : ℕ) → k < l.i → Draw (circle_in l.setup) l.mask l.line s s' k (get_or l.draws k []))

@@ -15,26 +15,26 @@ loop-line-init c =
     let g = higher z c.args.mask.now in
     let ls = c.args.lines.now in
     let F = of (family c.args.figures.now) in
-    let F' = of (family c.args.other-figures.now) in
+    let F' = of (family c.args.other_figures.now) in
     let C = family c.args.coins.now in
-    beside_start z g ls F F' (of C) (length C) (vec_items c.in-Ok.first.held) (vec_items c.in-Ok-new.second.held) (vec_items c.in-Ok.first.opened) (vec_items c.in-Ok-new.second.opened) (lists c.in-Ok-empty-lists.paired)
+    beside_start z g ls F F' (of C) (length C) (vec_items c.in-Ok.first.held) (vec_items c.in-Ok-new.second.held) (vec_items c.in-Ok.first.opened) (vec_items c.in-Ok-new.second.opened) (lists c.in-Ok-empty_lists.paired)
     c.in-Ok.ensures.0 c.in-Ok-new.ensures.0 c.in-Ok.ensures.1 c.in-Ok-new.ensures.1
-    (c.in-Ok-empty-lists.ensures.0 ∙ sym (length-map c.args.coins.now (λ (r : Bor (List ℕ)). r.now))) c.in-Ok-empty-lists.ensures.1
+    (c.in-Ok-empty_lists.ensures.0 ∙ sym (length-map c.args.coins.now (λ (r : Bor (List ℕ)). r.now))) c.in-Ok-empty_lists.ensures.1
     c.requires.well c.requires.figs c.requires.figs' c.requires.enough
 
-pub do-both-requires : goal.do-both-requires
-do-both-requires c =
+pub do_both-requires : goal.do_both-requires
+do_both-requires c =
     let z = circle_in c.args.setup.now in
     let g = higher z c.args.mask.now in
     let ls = c.args.lines.now in
     let F = of (family c.args.figures.now) in
-    let F' = of (family c.args.other-figures.now) in
+    let F' = of (family c.args.other_figures.now) in
     let C = family c.args.coins.now in
     let coins = of (family c.loop-line.coins) in
     let figures = of (family c.loop-line.figures) in
     let rows = vec_items c.loop-line.first.held in
     let shown = vec_items c.loop-line.first.opened in
-    let figures' = of (family c.loop-line.other-figures) in
+    let figures' = of (family c.loop-line.other_figures) in
     let rows' = vec_items c.loop-line.second.held in
     let shown' = vec_items c.loop-line.second.opened in
     let paired = lists c.loop-line.paired in
@@ -50,13 +50,13 @@ returns-in-Err c =
     let g = higher z c.args.mask.now in
     let ls = c.args.lines.now in
     let F = of (family c.args.figures.now) in
-    let F' = of (family c.args.other-figures.now) in
+    let F' = of (family c.args.other_figures.now) in
     let C = family c.args.coins.now in
     let coins = of (family c.loop-line.coins) in
     let figures = of (family c.loop-line.figures) in
     let rows = vec_items c.loop-line.first.held in
     let shown = vec_items c.loop-line.first.opened in
-    let figures' = of (family c.loop-line.other-figures) in
+    let figures' = of (family c.loop-line.other_figures) in
     let rows' = vec_items c.loop-line.second.held in
     let shown' = vec_items c.loop-line.second.opened in
     let paired = lists c.loop-line.paired in
@@ -72,13 +72,13 @@ loop-line-preserved c =
     let g = higher z c.args.mask.now in
     let ls = c.args.lines.now in
     let F = of (family c.args.figures.now) in
-    let F' = of (family c.args.other-figures.now) in
+    let F' = of (family c.args.other_figures.now) in
     let C = family c.args.coins.now in
     let coins = of (family c.loop-line.coins) in
     let figures = of (family c.loop-line.figures) in
     let rows = vec_items c.loop-line.first.held in
     let shown = vec_items c.loop-line.first.opened in
-    let figures' = of (family c.loop-line.other-figures) in
+    let figures' = of (family c.loop-line.other_figures) in
     let rows' = vec_items c.loop-line.second.held in
     let shown' = vec_items c.loop-line.second.opened in
     let paired = lists c.loop-line.paired in
@@ -87,9 +87,9 @@ loop-line-preserved c =
     let rest = drop (k + 1) ls in
     let h = beside_here z g ls F F' (of C) (length C) k (Input 0) coins figures rows shown figures' rows' shown' paired c.loop-line-test.true c.loop-line.invariant in
     beside-more z g ls F F' (of C) (length C) l rest coins figures rows shown figures' rows' shown' paired h
-    (of (family c.do-both.new.coins)) (of (family c.do-both.new.figures)) (vec_items c.do-both.new.first.held) (vec_items c.do-both.new.first.opened)
-    (of (family c.do-both.new.other-figures)) (vec_items c.do-both.new.second.held) (vec_items c.do-both.new.second.opened) (lists c.do-both.new.paired)
-    (c.in-default-do-both.ensures (s z g ls F F' (of C) (length C) l rest coins figures rows shown figures' rows' shown' paired h) (s' z g ls F F' (of C) (length C) l rest coins figures rows shown figures' rows' shown' paired h) refl (side z g ls F F' (of C) (length C) l rest coins figures rows shown figures' rows' shown' paired h) (side' z g ls F F' (of C) (length C) l rest coins figures rows shown figures' rows' shown' paired h))
+    (of (family c.do_both.new.coins)) (of (family c.do_both.new.figures)) (vec_items c.do_both.new.first.held) (vec_items c.do_both.new.first.opened)
+    (of (family c.do_both.new.other_figures)) (vec_items c.do_both.new.second.held) (vec_items c.do_both.new.second.opened) (lists c.do_both.new.paired)
+    (c.in_default-do_both.ensures (s z g ls F F' (of C) (length C) l rest coins figures rows shown figures' rows' shown' paired h) (s' z g ls F F' (of C) (length C) l rest coins figures rows shown figures' rows' shown' paired h) refl (side z g ls F F' (of C) (length C) l rest coins figures rows shown figures' rows' shown' paired h) (side' z g ls F F' (of C) (length C) l rest coins figures rows shown figures' rows' shown' paired h))
 
 pub returns : goal.returns
 returns c =
@@ -97,16 +97,16 @@ returns c =
     let g = higher z c.args.mask.now in
     let ls = c.args.lines.now in
     let F = of (family c.args.figures.now) in
-    let F' = of (family c.args.other-figures.now) in
+    let F' = of (family c.args.other_figures.now) in
     let C = family c.args.coins.now in
     let coins = family c.loop-line.coins in
     let figures = of (family c.loop-line.figures) in
     let rows = vec_items c.loop-line.first.held in
     let shown = vec_items c.loop-line.first.opened in
-    let figures' = of (family c.loop-line.other-figures) in
+    let figures' = of (family c.loop-line.other_figures) in
     let rows' = vec_items c.loop-line.second.held in
     let shown' = vec_items c.loop-line.second.opened in
     let paired = lists c.loop-line.paired in
-    beside_end z g ls F F' C coins figures rows shown figures' rows' shown' paired (lists c.append-each.new.lists)
+    beside_end z g ls F F' C coins figures rows shown figures' rows' shown' paired (lists c.append_each.new.lists)
     (subst (λ (left : List Line). Beside z g ls F F' (of C) (length C) left (of coins) figures rows shown figures' rows' shown' paired) (drop_all c.loop-line.line-index ls c.loop-line-test.false) c.loop-line.invariant)
-    c.in-default-append-each.ensures
+    c.in_default-append_each.ensures

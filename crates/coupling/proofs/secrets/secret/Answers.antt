@@ -9,18 +9,18 @@ use Rattle.coupling.proofs.secrets.secret.Goals as goal
 
 pub returns-in-empty : goal.returns-in-empty
 returns-in-empty c =
-    let list : List ℕ = c.list-of.result.now in
+    let list : List ℕ = c.list_of.result.now in
     let none : length list ≡ 0 = search rules in
     record {
       value = λ s h. ap (λ (xs : List ℕ). get_or xs 0 0) (sym (nil_from_length list none))
-          ∙ secret_input c.args.line c.in-Input.field-0 c.args.member s c.args.held.now (of (family c.args.figures.now)) list c.in-Input.is c.list-of.ensures h;
+          ∙ secret_input c.args.line c.in-Input.field-0 c.args.member s c.args.held.now (of (family c.args.figures.now)) list c.in-Input.is c.list_of.ensures h;
       small = lit< tt;
     }
 
 pub returns-in-len1-up : goal.returns-in-len1-up
 returns-in-len1-up c = record {
-  value = λ s h. secret_input c.args.line c.in-Input.field-0 c.args.member s c.args.held.now (of (family c.args.figures.now)) c.list-of.result.now c.in-Input.is c.list-of.ensures h;
-  small = first_below c.list-of.result.now (subst (λ (xs : List ℕ). T (below xs)) (sym c.list-of.ensures) (c.requires.3 c.args.member));
+  value = λ s h. secret_input c.args.line c.in-Input.field-0 c.args.member s c.args.held.now (of (family c.args.figures.now)) c.list_of.result.now c.in-Input.is c.list_of.ensures h;
+  small = first_below c.list_of.result.now (subst (λ (xs : List ℕ). T (below xs)) (sym c.list_of.ensures) (c.requires.3 c.args.member));
 }
 
 pub returns-in-Product : goal.returns-in-Product

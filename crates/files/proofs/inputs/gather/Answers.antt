@@ -26,47 +26,47 @@ loop-i-init c = (
   ),
 )
 
-pub returns-in-err-after : goal.returns-in-err-after
-returns-in-err-after c =
+pub returns-in_err-after : goal.returns-in_err-after
+returns-in_err-after c =
     let p = err_from_is_err_and c.from-residual.result c.from-residual.ensures.1 in
     rw (p.1, p.2)
     (record {
       answer =
-          refused_so c.in-err-after.field-0.0 _ _
+          refused_so c.in_err-after.field-0.0 _ _
           (λ none. ap told (each_stop member_one c.args.n c.loop-i.-i c.loop-i.invariant.1.0 c.loop-i.rest.now c.args.bytes.now (search rules) (member_none c.loop-i.rest.now none) c.loop-i.invariant.1.2))
-          c.in-err-after.ensures;
+          c.in_err-after.ensures;
       coins = tt;
     })
 
-pub returns-in-err-rest : goal.returns-in-err-rest
-returns-in-err-rest c =
-    let p = err_from_is_err_and c.from-residual-in-err-rest.result c.from-residual-in-err-rest.ensures.1 in
-    let first = c.in-ok-after.ensures in
+pub returns-in_err-rest : goal.returns-in_err-rest
+returns-in_err-rest c =
+    let p = err_from_is_err_and c.from-residual-in_err-rest.result c.from-residual-in_err-rest.ensures.1 in
+    let first = c.in_ok-after.ensures in
     rw (p.1, p.2)
     (record {
       answer =
-          refused_so c.in-err-rest.field-0.0 _ _
-          (λ none. ap told (each_stop member_one c.args.n c.loop-i.-i c.loop-i.invariant.1.0 c.loop-i.rest.now c.args.bytes.now (search rules) (member_half c.loop-i.rest.now first.0 c.in-ok-after.after.now first.1 none) c.loop-i.invariant.1.2))
-          c.in-err-rest.ensures;
+          refused_so c.in_err-rest.field-0.0 _ _
+          (λ none. ap told (each_stop member_one c.args.n c.loop-i.-i c.loop-i.invariant.1.0 c.loop-i.rest.now c.args.bytes.now (search rules) (member_half c.loop-i.rest.now first.0 c.in_ok-after.after.now first.1 none) c.loop-i.invariant.1.2))
+          c.in_err-rest.ensures;
       coins = tt;
     })
 
 pub loop-i-preserved : goal.loop-i-preserved
 loop-i-preserved c =
-    let first = c.in-ok-after.ensures in
-    let second = c.in-ok-rest.ensures in
+    let first = c.in_ok-after.ensures in
+    let second = c.in_ok-rest.ensures in
     let m : Member = record { figures = words first.0; coins = coins_of (words second.0) } in (
       lists_push _ (lists c.loop-i.inputs.coins) _ second.2 c.loop-i.invariant.0 (coins-below (words second.0)),
       (
         c.loop-i.invariant.1.0 ++ m ∷ [],
-        gathered_more c.loop-i.invariant.1.0 m (held c.loop-i.inputs) (record { figures = lists c.take-words.new.lists; coins = lists c.take-coins.new.lists }) m.figures m.coins c.loop-i.invariant.1.1 refl refl first.2 second.2,
-        each_more member_one c.args.n c.loop-i.-i c.loop-i.invariant.1.0 c.loop-i.rest.now c.args.bytes.now m c.in-ok-rest.rest.now
-            (search rules) (member-some _ first.0 c.in-ok-after.after.now second.0 _ first.1 second.1) c.loop-i.invariant.1.2,
+        gathered_more c.loop-i.invariant.1.0 m (held c.loop-i.inputs) (record { figures = lists c.take_words.new.lists; coins = lists c.take_coins.new.lists }) m.figures m.coins c.loop-i.invariant.1.1 refl refl first.2 second.2,
+        each_more member_one c.args.n c.loop-i.-i c.loop-i.invariant.1.0 c.loop-i.rest.now c.args.bytes.now m c.in_ok-rest.rest.now
+            (search rules) (member-some _ first.0 c.in_ok-after.after.now second.0 _ first.1 second.1) c.loop-i.invariant.1.2,
       ),
     )
 
-pub returns-then-not-is-empty : goal.returns-then-not-is-empty
-returns-then-not-is-empty c = record {
+pub returns-then-not-is_empty : goal.returns-then-not-is_empty
+returns-then-not-is_empty c = record {
   answer = ap told (each_left member_one c.args.n c.loop-i.-i c.loop-i.invariant.1.0 c.loop-i.rest.now c.args.bytes.now (search rules) (search rules) c.loop-i.invariant.1.2);
   coins = tt;
 }

@@ -4,8 +4,8 @@ use Rattle.files.proofs.lending.lend.Goals as goal
 
 pub loop-i-preserved : goal.loop-i-preserved
 loop-i-preserved c = (
-  lend_more vec_items (vec_items c.args.lists.now) c.loop-i.i c.index.result.now _ (vec_items c.loop-i.lent) c.as-slice.result
-      (search rules) c.index.ensures c.as-slice.ensures.value c.push-reserved.ensures.items c.loop-i.invariant.0,
+  lend_more vec_items (vec_items c.args.lists.now) c.loop-i.i c.index.result.now _ (vec_items c.loop-i.lent) c.as_slice.result
+      (search rules) c.index.ensures c.as_slice.ensures.value c.push_reserved.ensures.items c.loop-i.invariant.0,
   search rules,
   search rules,
 )

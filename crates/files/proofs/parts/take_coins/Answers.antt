@@ -6,5 +6,5 @@ pub returns : goal.returns
 returns c = (
   c.in-Some.part.now,
   c.in-Some.ensures,
-  one_more vec_items _ _ _ _ _ c.push-reserved.ensures.items c.reserve.ensures.items c.in-ok-split-coins.ensures.0,
+  one_more vec_items _ _ _ _ _ c.push_reserved.ensures.items c.reserve.ensures.items c.in_ok-split_coins.ensures.0,
 )

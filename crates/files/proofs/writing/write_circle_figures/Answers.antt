@@ -10,7 +10,7 @@ pub loop-list-preserved : goal.loop-list-preserved
 loop-list-preserved c =
     let xs = c.args.lists.now in
     let i = c.loop-list.list-index in
-    let wrote = c.in-default.ensures in (
+    let wrote = c.in_default.ensures in (
       fits_more vec_items xs i c.list-item.result c.deref.result.now (search rules) c.list-item.is c.deref.ensures.value _ wrote.0 c.loop-list.invariant.0,
       circle_more vec_items xs i c.list-item.result c.deref.result.now (search rules) c.list-item.is c.deref.ensures.value _ (vec_items c.loop-list.out) _ wrote.1 c.loop-list.invariant.1,
       grown_more _ (vec_items c.loop-list.out) _ _ wrote.1 c.loop-list.invariant.2,

@@ -4,5 +4,5 @@ use Rattle.pairing.proofs.differing.first_figure.Given as goal
 
 abbrev pub invariant-loop-line : goal.invariant-loop-line
 invariant-loop-line l =
-    Compared l.watched l.lines (of (family l.initial.figures)) (of (family l.initial.other-figures))
-    l.line-index l.taken (of (family l.figures)) (of (family l.other-figures))
+    Compared l.watched l.lines (of (family l.initial.figures)) (of (family l.initial.other_figures))
+    l.line-index l.taken (of (family l.figures)) (of (family l.other_figures))

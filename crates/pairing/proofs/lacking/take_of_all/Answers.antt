@@ -6,9 +6,9 @@ use Rattle.pairing.proofs.lacking.take_of_all.Goals as goal
 pub loop-i-init : goal.loop-i-init
 loop-i-init c = dealt_none (record { n = c.args.n; t = c.args.t }) (of (family c.args.coins.now))
 
-pub returns-in-default : goal.returns-in-default
-returns-in-default c =
-    (dealt-short (record { n = c.args.n; t = c.args.t }) (of (family c.args.coins.now)) c.loop-i.i (of (family c.loop-i.coins)) c.loop-i-test.true c.in-default.ensures.0 c.loop-i.invariant, refl)
+pub returns-in_default : goal.returns-in_default
+returns-in_default c =
+    (dealt-short (record { n = c.args.n; t = c.args.t }) (of (family c.args.coins.now)) c.loop-i.i (of (family c.loop-i.coins)) c.loop-i-test.true c.in_default.ensures.0 c.loop-i.invariant, refl)
 
 pub loop-i-preserved : goal.loop-i-preserved
 loop-i-preserved c =

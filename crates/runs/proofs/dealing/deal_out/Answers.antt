@@ -15,7 +15,7 @@ returns c =
     let drew = c.in-Some.ensures in
     let long : length c.args.row.now ≡ 15 = search rules in
     dealt_out (circle_in c.args.setup.now) (watches c.args.setup.now.watched) c.args.member c.args.secret
-    (of (family c.args.coins.now)) (of (family c.draw.new.lists)) (vec_items c.args.seen.now) (vec_items c.note-shares.new.seen)
-    c.deal.new.shares c.in-Some.drawn.now c.note-shares.result
+    (of (family c.args.coins.now)) (of (family c.draw.new.lists)) (vec_items c.args.seen.now) (vec_items c.note_shares.new.seen)
+    c.deal.new.shares c.in-Some.drawn.now c.note_shares.result
     (search rules) drew.0 drew.1 drew.2
-    (c.deal.ensures ∙ ap (λ (n : ℕ). dealt n c.args.secret c.in-Some.drawn.now) long) c.note-shares.ensures
+    (c.deal.ensures ∙ ap (λ (n : ℕ). dealt n c.args.secret c.in-Some.drawn.now) long) c.note_shares.ensures

@@ -20,7 +20,7 @@ pub returns-in-Ok : goal.returns-in-Ok
 returns-in-Ok c values e =
     done_input (circle_in c.args.setup.now) (watches c.args.setup.now.watched) values (vec_items c.args.held.now) (vec_items c.keep.new.held)
     (of (family c.args.figures.now)) (of (family c.args.coins.now)) (vec_items c.args.opened.now) (vec_items c.args.seen.now) c.keep.result e
-    c.args.line c.in-Input.member c.in-Input.is (of (family c.put-in.new.figures)) (of (family c.put-in.new.coins)) (vec_items c.put-in.new.seen) c.in-Ok.row
+    c.args.line c.in-Input.member c.in-Input.is (of (family c.put_in.new.figures)) (of (family c.put_in.new.coins)) (vec_items c.put_in.new.seen) c.in-Ok.row
     c.in-Ok.ensures c.keep.ensures
 
 pub returns-in-Sum : goal.returns-in-Sum

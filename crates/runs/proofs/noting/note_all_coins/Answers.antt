@@ -13,7 +13,7 @@ pub loop-k-preserved : goal.loop-k-preserved
 loop-k-preserved c =
     let h = c.in-Ok.ensures in
     noted_more (circle_in c.args.setup.now) (watches c.args.setup.now.watched) (of (family c.args.coins.now))
-    (vec_items c.args.seen.now) c.loop-k.k (vec_items c.loop-k.seen) (vec_items c.note-coins.new.seen)
+    (vec_items c.args.seen.now) c.loop-k.k (vec_items c.loop-k.seen) (vec_items c.note_coins.new.seen)
     c.loop-k-test.true h.0 h.1 c.loop-k.invariant
 
 pub returns-in-Err : goal.returns-in-Err

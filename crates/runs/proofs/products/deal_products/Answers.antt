@@ -22,8 +22,8 @@ loop-i-init c = (
   λ f g ea eb. dealings_none (circle_in c.args.setup.now) (watches c.args.setup.now.watched) f g (of (family c.args.coins.now)) (vec_items c.args.seen.now) (replicate 15 0) zeros,
 )
 
-pub deal-out-requires : goal.deal-out-requires
-deal-out-requires c = (
+pub deal_out-requires : goal.deal_out-requires
+deal_out-requires c = (
   c.product-secret.ensures.1,
   subst Reduced (sym c.loop-i.invariant.2) (drawn-reduced c.args.setup.now.t c.loop-i.i (of (family c.args.coins.now)) c.requires.0),
 )
@@ -35,8 +35,8 @@ returns-in-Err c f g ea eb =
       | inr h ↦ absurd (never_short (circle_in c.args.setup.now) (of (family c.args.coins.now)) (of (family c.loop-i.coins)) c.loop-i.i c.requires.1 c.loop-i-test.true c.loop-i.invariant.2 h.1)
     ]
 
-pub add-weighted-requires : goal.add-weighted-requires
-add-weighted-requires c = c.loop-i.invariant.3
+pub add_weighted-requires : goal.add_weighted-requires
+add_weighted-requires c = c.loop-i.invariant.3
 
 pub loop-i-preserved : goal.loop-i-preserved
 loop-i-preserved c =
@@ -44,9 +44,9 @@ loop-i-preserved c =
     let watching = watches c.args.setup.now.watched in
     let C : ℕ → List ℕ = of (family c.args.coins.now) in
     let k : ℕ = c.loop-i.i in
-    let row : List ℕ = c.deal-out.new.row in
-    let d = c.in-default.ensures in
-    let moved : of (family c.deal-out.new.coins) ≡ drawn_by c.args.setup.now.t (k + 1) C =
+    let row : List ℕ = c.deal_out.new.row in
+    let d = c.in_default.ensures in
+    let moved : of (family c.deal_out.new.coins) ≡ drawn_by c.args.setup.now.t (k + 1) C =
     d.moved ∙ (ap (after (k + 1) c.args.setup.now.t) c.loop-i.invariant.2 ∙ drawn_more c.args.setup.now.t k C) in
     let few = c.args.setup.now.few in
     let long : length row ≡ 15 = search rules in
@@ -54,14 +54,14 @@ loop-i-preserved c =
     elim c.if-i-setup.branch [
       | then-i-setup w ↦
           let each : (j : ℕ) → j < 15 → get_or c.if-i-setup.made j 0 ≡ get_or c.loop-i.made j 0 ⊕ get_or (weights (m z)) k 0 ⊗ get_or row j 0 =
-          λ j lj. ap (λ (xs : List ℕ). get_or xs j 0) w.made-is ∙ (w.add-weighted.ensures j lj
+          λ j lj. ap (λ (xs : List ℕ). get_or xs j 0) w.made-is ∙ (w.add_weighted.ensures j lj
           ∙ ap (λ (x : ℕ). get_or c.loop-i.made j 0 ⊕ x ⊗ get_or row j 0) (weight_at z c.args.setup.now.weights k c.args.setup.now.weighs w.if-i-setup.true)) in (
             ap length w.made-is ∙ search rules,
             long,
             moved,
             λ j lj. subst (λ (x : ℕ). x < p) (sym (each j lj)) (⊕-below (get_or c.loop-i.made j 0) (get_or (weights (m z)) k 0 ⊗ get_or row j 0)),
-            λ f g ea eb. dealings_more z watching f g C c.args.a.now c.args.b.now k c.product-secret.result (of (family c.loop-i.coins)) (of (family c.deal-out.new.coins))
-                (vec_items c.loop-i.seen) (vec_items c.deal-out.new.seen) row ea eb few c.loop-i-test.true c.loop-i.invariant.2 secret d
+            λ f g ea eb. dealings_more z watching f g C c.args.a.now c.args.b.now k c.product-secret.result (of (family c.loop-i.coins)) (of (family c.deal_out.new.coins))
+                (vec_items c.loop-i.seen) (vec_items c.deal_out.new.seen) row ea eb few c.loop-i-test.true c.loop-i.invariant.2 secret d
                 (vec_items c.args.seen.now) c.loop-i.made c.if-i-setup.made w.if-i-setup.true each (c.loop-i.invariant.4 f g ea eb),
           )
       | else-i-setup w ↦ (
@@ -69,8 +69,8 @@ loop-i-preserved c =
         long,
         moved,
         λ j lj. subst (λ (xs : List ℕ). get_or xs j 0 < p) (sym w.made-is) (c.loop-i.invariant.3 j lj),
-        λ f g ea eb. dealings_skip z watching f g C c.args.a.now c.args.b.now k c.product-secret.result (of (family c.loop-i.coins)) (of (family c.deal-out.new.coins))
-            (vec_items c.loop-i.seen) (vec_items c.deal-out.new.seen) row ea eb few c.loop-i-test.true c.loop-i.invariant.2 secret d
+        λ f g ea eb. dealings_skip z watching f g C c.args.a.now c.args.b.now k c.product-secret.result (of (family c.loop-i.coins)) (of (family c.deal_out.new.coins))
+            (vec_items c.loop-i.seen) (vec_items c.deal_out.new.seen) row ea eb few c.loop-i-test.true c.loop-i.invariant.2 secret d
             (vec_items c.args.seen.now) c.loop-i.made c.if-i-setup.made w.if-i-setup.false w.made-is (c.loop-i.invariant.4 f g ea eb),
       )
     ]

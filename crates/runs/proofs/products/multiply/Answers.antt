@@ -7,7 +7,7 @@ use Rattle.runs.proofs.products.multiply.Goals as goal
 
 pub returns : goal.returns
 returns c f g ea eb =
-    let noted = c.in-default.ensures in
-    producing (circle_in c.args.setup.now) (watches c.args.setup.now.watched) f g (of (family c.args.coins.now)) (of (family c.deal-products.new.coins))
-    (vec_items c.args.seen.now) (vec_items c.note-all-coins.new.seen) (vec_items c.deal-products.new.seen) c.deal-products.result
-    noted.0 noted.1 (c.deal-products.ensures f g ea eb)
+    let noted = c.in_default.ensures in
+    producing (circle_in c.args.setup.now) (watches c.args.setup.now.watched) f g (of (family c.args.coins.now)) (of (family c.deal_products.new.coins))
+    (vec_items c.args.seen.now) (vec_items c.note_all_coins.new.seen) (vec_items c.deal_products.new.seen) c.deal_products.result
+    noted.0 noted.1 (c.deal_products.ensures f g ea eb)

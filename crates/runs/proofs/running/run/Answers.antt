@@ -5,27 +5,27 @@ use Rattle.runs.specs.Setups.{circle_in}
 use Rattle.runs.specs.Watching.{watches}
 use Rattle.runs.proofs.Whole.{not_reduced, given, ran}
 use Rattle.runs.proofs.running.run.Goals as goal
-use Rattle.runs.proofs.running.run.Goals.{then-not-are-all-below-via-then-not-are-all-below, then-not-are-all-below-via-else-not-are-all-below+then-not-are-all-below-2}
+use Rattle.runs.proofs.running.run.Goals.{then-not-are_all_below-via-then-not-are_all_below, then-not-are_all_below-via-else-not-are_all_below+then-not-are_all_below-2}
 
-pub returns-then-not-are-all-below : goal.returns-then-not-are-all-below
-returns-then-not-are-all-below c =
-    elim c.then-not-are-all-below.branch [
-      | then-not-are-all-below-via-then-not-are-all-below w ↦ inr (inl (refl, λ h. not_reduced (family c.args.figures.now) w.if-not-are-all-below.ensures h.0))
-      | then-not-are-all-below-via-else-not-are-all-below+then-not-are-all-below-2 w ↦ inr (inl (refl, λ h. not_reduced (family c.args.coins.now) w.if-not-are-all-below-2.ensures h.1))
+pub returns-then-not-are_all_below : goal.returns-then-not-are_all_below
+returns-then-not-are_all_below c =
+    elim c.then-not-are_all_below.branch [
+      | then-not-are_all_below-via-then-not-are_all_below w ↦ inr (inl (refl, λ h. not_reduced (family c.args.figures.now) w.if-not-are_all_below.ensures h.0))
+      | then-not-are_all_below-via-else-not-are_all_below+then-not-are_all_below-2 w ↦ inr (inl (refl, λ h. not_reduced (family c.args.coins.now) w.if-not-are_all_below-2.ensures h.1))
     ]
 
-pub run-lines-requires : goal.run-lines-requires
-run-lines-requires c =
+pub run_lines-requires : goal.run_lines-requires
+run_lines-requires c =
     let sheet = c.args.sheet.now in
-    given (circle_of sheet) (lines_in sheet) c.args.figures.now c.args.coins.now (sheet.enough, sheet.few) sheet.well c.if-not-are-all-below.ensures c.if-not-are-all-below-2.ensures
-    (circle_in c.set-up-setup.result) c.lines.result.now c.deref-mut.result.now c.deref-mut-2.result.now
-    c.set-up-setup.ensures.0 c.lines.ensures (c.deref-mut.ensures.value ∙ c.in-Ok.ensures.items) (c.deref-mut-2.ensures.value ∙ c.in-Ok-from-slice.ensures.items) (search rules)
+    given (circle_of sheet) (lines_in sheet) c.args.figures.now c.args.coins.now (sheet.enough, sheet.few) sheet.well c.if-not-are_all_below.ensures c.if-not-are_all_below-2.ensures
+    (circle_in c.set_up-setup.result) c.lines.result.now c.deref_mut.result.now c.deref_mut-2.result.now
+    c.set_up-setup.ensures.0 c.lines.ensures (c.deref_mut.ensures.value ∙ c.in-Ok.ensures.items) (c.deref_mut-2.ensures.value ∙ c.in-Ok-from_slice.ensures.items) (search rules)
 
 pub returns : goal.returns
 returns c =
     let sheet = c.args.sheet.now in
-    ran (circle_of sheet) (lines_in sheet) c.args.figures.now c.args.coins.now (sheet.enough, sheet.few) sheet.well c.if-not-are-all-below.ensures c.if-not-are-all-below-2.ensures
-    (watches c.args.watched.now) (watches c.set-up-setup.result.watched) c.run-lines.result
-    (circle_in c.set-up-setup.result) c.lines.result.now c.deref-mut.result.now c.deref-mut-2.result.now
-    (ap watches c.set-up-setup.ensures.1) c.set-up-setup.ensures.0 c.lines.ensures (c.deref-mut.ensures.value ∙ c.in-Ok.ensures.items) (c.deref-mut-2.ensures.value ∙ c.in-Ok-from-slice.ensures.items)
-    c.run-lines.ensures
+    ran (circle_of sheet) (lines_in sheet) c.args.figures.now c.args.coins.now (sheet.enough, sheet.few) sheet.well c.if-not-are_all_below.ensures c.if-not-are_all_below-2.ensures
+    (watches c.args.watched.now) (watches c.set_up-setup.result.watched) c.run_lines.result
+    (circle_in c.set_up-setup.result) c.lines.result.now c.deref_mut.result.now c.deref_mut-2.result.now
+    (ap watches c.set_up-setup.ensures.1) c.set_up-setup.ensures.0 c.lines.ensures (c.deref_mut.ensures.value ∙ c.in-Ok.ensures.items) (c.deref_mut-2.ensures.value ∙ c.in-Ok-from_slice.ensures.items)
+    c.run_lines.ensures

@@ -1,4 +1,4 @@
-use Rattle.std.proofs.Common.{ℕ, ◌+◌, length, rules}
+use Rattle.std.proofs.Common.{◌+◌, length, rules}
 use Rattle.std.proofs.lemmas.List.Edits.{fill_by_more}
 use Rattle.shares.specs.Circle.{members}
 use Rattle.shares.specs.Weights.{weight_among}

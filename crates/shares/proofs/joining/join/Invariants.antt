@@ -1,4 +1,4 @@
-use Rattle.std.proofs.Common.{◌≡◌, ◌<◌, length, take, drop}
+use Rattle.std.proofs.Common.{◌≡◌, ◌<◌, drop}
 use Rattle.field.specs.Field.{p, ◌⊕◌}
 use Rattle.shares.specs.Weights.{dot}
 use Rattle.shares.proofs.joining.join.Given as goal

@@ -1,9 +1,9 @@
-use Rattle.std.proofs.Common.{◌≡◌, ℕ, ◌+◌, T, List, ◌∷◌, length, get_or, drop, vec_items, vec_len, sym, subst, inl, inr, ⊎_elim}
+use Rattle.std.proofs.Common.{ℕ, ◌+◌, T, get_or, drop, vec_items, sym, subst, inl, inr, ⊎_elim}
 use Rattle.std.proofs.lemmas.List.{drop_all}
 use Rattle.sheets.specs.Families.{family}
 use Rattle.sheets.specs.Lines.{good_line}
 use Rattle.sheets.specs.declared.line.Line.TheVariants.{Input}
-use Rattle.sheets.proofs.Plainly.{At, at_here, at_start, at_step, at_end, at_wanting, at_line}
+use Rattle.sheets.proofs.Plainly.{at_here, at_start, at_step, at_end, at_wanting, at_line}
 use Rattle.sheets.proofs.meaning.work_all.Goals as goal
 
 pub loop-line-init : goal.loop-line-init
@@ -33,7 +33,7 @@ loop-line-preserved c =
     let here = at_here n c.args.lines.now (family c.args.figures.now) c.loop-line.line-index (family c.loop-line.figures) (vec_items c.loop-line.values) (vec_items c.loop-line.opened) c.loop-line-test.true c.loop-line.invariant.1 in
     let line = get_or c.args.lines.now c.loop-line.line-index (Input 0) in
     let rest = drop (c.loop-line.line-index + 1) c.args.lines.now in
-    (n, at_step n c.args.lines.now (family c.args.figures.now) line rest (family c.loop-line.figures) (family c.work.new.figures) (vec_items c.loop-line.values) (vec_items c.work.new.values) (vec_items c.loop-line.opened) (vec_items c.work.new.opened) here c.in-default.ensures)
+    (n, at_step n c.args.lines.now (family c.args.figures.now) line rest (family c.loop-line.figures) (family c.work.new.figures) (vec_items c.loop-line.values) (vec_items c.work.new.values) (vec_items c.loop-line.opened) (vec_items c.work.new.opened) here c.in_default.ensures)
 
 pub returns : goal.returns
 returns c = at_end c.loop-line.invariant.0 c.args.lines.now (family c.args.figures.now) (drop c.loop-line.line-index c.args.lines.now) (family c.loop-line.figures) (vec_items c.loop-line.values) (vec_items c.loop-line.opened) (drop_all c.loop-line.line-index c.args.lines.now c.loop-line-test.false) c.loop-line.invariant.1

@@ -1,22 +1,22 @@
-use Rattle.std.proofs.Common.{◌≡◌, ℕ, ◌+◌, ◌≤◌, true, false, List, [], ◌∷◌, ◌++◌, length, take, drop, vec_items, sym, refl, ap, ◌∙◌, subst, inl, inr, arith, rules}
+use Rattle.std.proofs.Common.{◌≡◌, ℕ, ◌+◌, true, List, [], ◌∷◌, ◌++◌, take, vec_items, sym, refl, ap, ◌∙◌, subst, inr, arith}
 use Rattle.sheets.specs.Reading.{malformed, line_of}
 use Rattle.sheets.specs.declared.line.Line.{Line}
-use Rattle.sheets.proofs.Parts.{Reads, Step, reads_none, reads_step, reads_all, none_read, some_read}
+use Rattle.sheets.proofs.Parts.{Reads, reads_none, reads_step, reads_all, none_read, some_read}
 use Rattle.sheets.proofs.reading.lines_of.Goals as goal
 
 pub loop-init : goal.loop-init
-loop-init c = reads_none c.args.count c.args.bytes.now (vec_items c.in-Ok.lines) c.requires c.in-Ok.ensures.made.0
+loop-init c = reads_none c.args.count c.args.bytes.now (vec_items c.in-Ok.lines) c.requires c.in-Ok.ensures.items
 
-pub returns-in-default-split-first-chunk : goal.returns-in-default-split-first-chunk
-returns-in-default-split-first-chunk c =
+pub returns-in_default-split_first_chunk : goal.returns-in_default-split_first_chunk
+returns-in_default-split_first_chunk c =
     let step = reads_step c.args.count c.args.bytes.now c.loop.counter (vec_items c.loop.lines) c.loop.rest.now c.loop-test.true c.loop.invariant in
-    absurd (omega (arith, step.2, c.in-default-split-first-chunk.ensures.cases))
+    absurd (omega (arith, step.2, c.in_default-split_first_chunk.ensures.cases))
 
-pub returns-in-default-read : goal.returns-in-default-read
-returns-in-default-read c =
+pub returns-in_default-read : goal.returns-in_default-read
+returns-in_default-read c =
     let step = reads_step c.args.count c.args.bytes.now c.loop.counter (vec_items c.loop.lines) c.loop.rest.now c.loop-test.true c.loop.invariant in
     let nine = c.in-Some.nine.now in
-    let bad : malformed nine ≡ true = none_read (malformed nine) (line_of nine) c.in-default-read.ensures in
+    let bad : malformed nine ≡ true = none_read (malformed nine) (line_of nine) c.in_default-read.ensures in
     inr (refl, step.1 (ap malformed (sym c.in-Some.ensures.cases.0) ∙ bad))
 
 pub loop-preserved : goal.loop-preserved

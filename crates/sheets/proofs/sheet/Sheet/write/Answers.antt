@@ -1,4 +1,4 @@
-use Rattle.std.proofs.Common.{◌≡◌, ℕ, List, ◌++◌, length, vec_items, sym, ap, ◌∙◌, ap₂, rules}
+use Rattle.std.proofs.Common.{◌≡◌, ℕ, List, ◌++◌, length, vec_items, ap, ◌∙◌, ap₂}
 use Rattle.std.specs.List.{flat_map as concat}
 use Rattle.std.proofs.lemmas.List.{append_assoc}
 use Rattle.sheets.specs.Bytes.{line_bytes, head_bytes}
@@ -13,6 +13,6 @@ returns c =
     let front : vec_items c.append.new.out ≡ before ++ head_bytes s.n s.t (length lines) =
     c.append.ensures.items
     ∙ ap₂ ◌++◌ c.in-Ok.ensures.items (c.head.ensures ∙ ap (head_bytes s.n s.t) (c.len-count.ensures ∙ s.lines.ok.0)) in
-    c.append-lines.ensures
+    c.append_lines.ensures
     ∙ (ap₂ (λ (l : List ℕ) (ls : List Line). l ++ concat line_bytes ls) front c.deref.ensures.value
     ∙ append_assoc before (head_bytes s.n s.t (length lines)) (concat line_bytes lines))
