@@ -28,25 +28,25 @@ loop-i-init c = (
 
 pub returns-in_err-after : goal.returns-in_err-after
 returns-in_err-after c =
-    let p = err_from_is_err_and c.from-residual.result c.from-residual.ensures.1 in
+    let p = err_from_is_err_and c.from_residual.result c.from_residual.ensures.1 in
     rw (p.1, p.2)
     (record {
       answer =
           refused_so c.in_err-after.field-0.0 _ _
-          (λ none. ap told (each_stop member_one c.args.n c.loop-i.-i c.loop-i.invariant.1.0 c.loop-i.rest.now c.args.bytes.now (search rules) (member_none c.loop-i.rest.now none) c.loop-i.invariant.1.2))
+          (λ none. ap told (each_stop member_one c.args.n c.loop-i._i c.loop-i.invariant.1.0 c.loop-i.rest.now c.args.bytes.now (search rules) (member_none c.loop-i.rest.now none) c.loop-i.invariant.1.2))
           c.in_err-after.ensures;
       coins = tt;
     })
 
 pub returns-in_err-rest : goal.returns-in_err-rest
 returns-in_err-rest c =
-    let p = err_from_is_err_and c.from-residual-in_err-rest.result c.from-residual-in_err-rest.ensures.1 in
+    let p = err_from_is_err_and c.from_residual-in_err-rest.result c.from_residual-in_err-rest.ensures.1 in
     let first = c.in_ok-after.ensures in
     rw (p.1, p.2)
     (record {
       answer =
           refused_so c.in_err-rest.field-0.0 _ _
-          (λ none. ap told (each_stop member_one c.args.n c.loop-i.-i c.loop-i.invariant.1.0 c.loop-i.rest.now c.args.bytes.now (search rules) (member_half c.loop-i.rest.now first.0 c.in_ok-after.after.now first.1 none) c.loop-i.invariant.1.2))
+          (λ none. ap told (each_stop member_one c.args.n c.loop-i._i c.loop-i.invariant.1.0 c.loop-i.rest.now c.args.bytes.now (search rules) (member_half c.loop-i.rest.now first.0 c.in_ok-after.after.now first.1 none) c.loop-i.invariant.1.2))
           c.in_err-rest.ensures;
       coins = tt;
     })
@@ -60,21 +60,21 @@ loop-i-preserved c =
       (
         c.loop-i.invariant.1.0 ++ m ∷ [],
         gathered_more c.loop-i.invariant.1.0 m (held c.loop-i.inputs) (record { figures = lists c.take_words.new.lists; coins = lists c.take_coins.new.lists }) m.figures m.coins c.loop-i.invariant.1.1 refl refl first.2 second.2,
-        each_more member_one c.args.n c.loop-i.-i c.loop-i.invariant.1.0 c.loop-i.rest.now c.args.bytes.now m c.in_ok-rest.rest.now
+        each_more member_one c.args.n c.loop-i._i c.loop-i.invariant.1.0 c.loop-i.rest.now c.args.bytes.now m c.in_ok-rest.rest.now
             (search rules) (member-some _ first.0 c.in_ok-after.after.now second.0 _ first.1 second.1) c.loop-i.invariant.1.2,
       ),
     )
 
 pub returns-then-not-is_empty : goal.returns-then-not-is_empty
 returns-then-not-is_empty c = record {
-  answer = ap told (each_left member_one c.args.n c.loop-i.-i c.loop-i.invariant.1.0 c.loop-i.rest.now c.args.bytes.now (search rules) (search rules) c.loop-i.invariant.1.2);
+  answer = ap told (each_left member_one c.args.n c.loop-i._i c.loop-i.invariant.1.0 c.loop-i.rest.now c.args.bytes.now (search rules) (search rules) c.loop-i.invariant.1.2);
   coins = tt;
 }
 
 pub returns : goal.returns
 returns c = record {
   answer =
-      ap told (each_all member_one c.args.n c.loop-i.-i c.loop-i.invariant.1.0 c.loop-i.rest.now c.args.bytes.now (search rules) (search rules) c.loop-i.invariant.1.2)
+      ap told (each_all member_one c.args.n c.loop-i._i c.loop-i.invariant.1.0 c.loop-i.rest.now c.args.bytes.now (search rules) (search rules) c.loop-i.invariant.1.2)
       ∙ ap (λ (g : Given). Ok g) c.loop-i.invariant.1.1;
   coins = c.loop-i.invariant.0;
 }

@@ -10,4 +10,4 @@ use Rattle.files.proofs.inputs.gather.Given as goal
 abbrev pub invariant-loop-i : goal.invariant-loop-i
 invariant-loop-i l =
     T (all_below (lists l.inputs.coins))
-    × ((done : List Member) × (gathered done ≡ held l.inputs) × So member_one l.n l.-i done l.rest l.bytes)
+    × ((done : List Member) × (gathered done ≡ held l.inputs) × So member_one l.n l._i done l.rest l.bytes)

@@ -7,4 +7,8 @@ pub invariant_of-result : goal.invariant_of-result
 invariant_of-result c =
     let m : ℕ = c.threshold-t.result + c.threshold-t.result + 1 in
     let long : length c.fill_weights.new.weights ≡ m = search rules in
-    (search rules, (search rules, (take_at c.fill_weights.new.weights _ m long ∙ (c.fill_weights.ensures ∙ ap weights (search rules)), tt)))
+    record {
+      few = search rules;
+      enough = search rules;
+      weighs = take_at c.fill_weights.new.weights _ m long ∙ (c.fill_weights.ensures ∙ ap weights (search rules));
+    }
