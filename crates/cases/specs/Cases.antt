@@ -1,6 +1,6 @@
 -- Worked examples, as rows of one table. The definitions on the left are those that the contracts of the code cite.
 use Rattle.std.specs.Prelude.{◌≡◌, ℕ, ◌-◌, Bool, List, [], ◌∷◌, map, take, Some, None, Option, ◌==◌}
-use Rattle.std.specs.List.{AllByRecursion as All}
+use Rattle.std.specs.List.{AllByRecursion}
 use Rattle.field.specs.Field.{p}
 use Rattle.shares.specs.Circle.{Circle, members}
 use Rattle.shares.specs.Polynomial.{dealt}
@@ -131,4 +131,4 @@ table =
 
 -- Every row of the table is right.
 abbrev pub Cases : Type 0
-Cases = All Holds table
+Cases = AllByRecursion Holds table

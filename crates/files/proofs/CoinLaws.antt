@@ -1,10 +1,10 @@
 -- The laws of coins.
-use Rattle.std.proofs.Common.{◌≡◌, ℕ, ◌+◌, ◌<◌, Bool, true, false, cond, eqb, ◌⊎◌, List, [], ◌∷◌, ◌++◌, Some, None, Option, sym, refl, ap, ◌∙◌, inl, inr, arith}
+use Rattle.std.proofs.Common.{◌≡◌, ℕ, ◌+◌, ◌<◌, Bool, true, false, cond, eqb, ◌⊎◌, List, [], ◌∷◌, ◌++◌, Some, None, sym, ap, ◌∙◌, inl, inr, arith}
 use Rattle.field.specs.Field.{p}
 use Rattle.std.specs.Option.{option_to_list}
 use Rattle.std.proofs.lemmas.Bool.{eq-eqb, ne_eqb, cases_lt}
-use Rattle.files.specs.Files.{low, coin_in, coins_of}
-use Rattle.files.specs.Laws.{Iff, CoinWords, PassedOver}
+use Rattle.files.specs.Files.{low, coin_in}
+use Rattle.files.specs.Laws.{CoinWords, PassedOver}
 use Rattle.files.proofs.CoinSteps.{coins-cons}
 
 low_of : (b : Bool) (x v : ℕ) → cond b None (Some x) ≡ Some v → x ≡ v

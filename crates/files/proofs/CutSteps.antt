@@ -1,8 +1,8 @@
 -- A count and as many words, as the code meets them: the first four bytes and the rest.
-use Rattle.std.proofs.Common.{◌≡◌, ℕ, ◌*◌, ◌<◌, ◌≤◌, true, false, List, [], ◌∷◌, length, take, drop, Some, None, Option, sym, refl, ap, ◌∙◌, arith}
+use Rattle.std.proofs.Common.{◌≡◌, ℕ, ◌*◌, ◌<◌, ◌≤◌, List, [], ◌∷◌, length, take, drop, Some, None, refl, ◌∙◌, arith}
 use Rattle.std.proofs.lemmas.List.{take_rest}
 use Rattle.std.proofs.lemmas.Bool.{le-leb, lt-leb}
-use Rattle.files.specs.Circles.{Got, cut_words, cut}
+use Rattle.files.specs.Circles.{cut_words, cut}
 use Rattle.files.proofs.WordSteps.{front, after}
 
 pub cut_short : (xs : List ℕ) → length xs < 4 → cut xs ≡ None

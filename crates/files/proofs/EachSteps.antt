@@ -1,5 +1,5 @@
 -- What n members bring, as a loop over them meets it: what was read so far, and what is left.
-use Rattle.std.proofs.Common.{◌≡◌, ℕ, zero, suc, ◌+◌, ◌-◌, ◌<◌, ◌≤◌, List, [], ◌∷◌, ◌++◌, map, length, Some, None, Option, sym, refl, ap, ◌∙◌, ap₂, arith}
+use Rattle.std.proofs.Common.{◌≡◌, ℕ, suc, ◌+◌, ◌-◌, ◌<◌, ◌≤◌, List, [], ◌∷◌, ◌++◌, map, length, Some, None, Option, sym, refl, ap, ◌∙◌, ap₂, arith}
 use Rattle.std.proofs.lemmas.List.{append_assoc, append-nil, nil_from_length, map_push}
 use Rattle.std.specs.Option.{option_map}
 use Rattle.files.specs.Circles.{Got, and_then, each, cut, figures_one, Member, member_one, Given, gathered}

@@ -1,12 +1,12 @@
 -- When a figure file is refused, and with which number.
-use Rattle.std.proofs.Common.{◌≡◌, ℕ, suc, ◌+◌, ◌%◌, ◌<◌, ◌≤◌, Bool, true, false, cond, ◌&&◌, T, eqb, ltb, ◌⊎◌, List, [], ◌∷◌, length, get_or, Ok, Err, Result, sym, refl, ◌∙◌, subst, inl, inr, arith}
+use Rattle.std.proofs.Common.{◌≡◌, ℕ, suc, ◌%◌, ◌<◌, ◌≤◌, Bool, true, false, cond, ◌&&◌, T, ltb, List, [], ◌∷◌, length, get_or, Ok, Err, Result, sym, refl, subst, inl, inr, arith}
 use Rattle.field.specs.Field.{p, below}
 use Rattle.field.proofs.Below.{below-get_or}
 use Rattle.sheets.specs.declared.refusal.Refusal.{Refusal}
 use Rattle.sheets.specs.declared.refusal.Refusal.TheVariants.{Malformed, OutOfRange}
 use Rattle.std.proofs.lemmas.Bool.{eq-eqb, ne_eqb, eqb-true, ltb-false, cases_Bool}
-use Rattle.files.specs.Files.{whole, figure_file}
-use Rattle.files.specs.Laws.{Iff, TooLarge, FigureAnswer, FigureAnswers}
+use Rattle.files.specs.Files.{whole}
+use Rattle.files.specs.Laws.{FigureAnswers}
 use Rattle.files.specs.Words.{words}
 
 -- the answer, by the two tests

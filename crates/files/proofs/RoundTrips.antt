@@ -1,13 +1,10 @@
 -- Writing and reading undo each other.
-use Rattle.std.proofs.Common.{◌≡◌, ℕ, suc, ◌+◌, ◌*◌, ◌/◌, ◌%◌, ◌<◌, ◌≤◌, Bool, true, false, cond, ◌&&◌, T, ltb, List, [], ◌∷◌, ◌++◌, length, take, drop, Some, None, Ok, Err, Option, sym, refl, ap, ◌∙◌, subst, ap₂, arith, lit<, ltb→lt, length-append}
-use lib.Arith.{mod-mul}
+use Rattle.std.proofs.Common.{◌≡◌, ℕ, ◌*◌, ◌%◌, ◌<◌, ◌≤◌, Bool, true, false, T, ltb, List, [], ◌∷◌, ◌++◌, length, Some, Ok, sym, refl, ap, ◌∙◌, ap₂, arith, ltb→lt, length-append}
 use Rattle.field.specs.Field.{p, below, all_below}
 use Rattle.field.proofs.Below.{both_parts}
-use Rattle.std.proofs.lemmas.List.{append_assoc, take_at, drop_at}
+use Rattle.std.proofs.lemmas.List.{take_at, drop_at}
 use Rattle.std.proofs.lemmas.Bool.{eq-eqb, eqb-true, le-leb}
-use Rattle.std.specs.Option.{option_map}
-use Rattle.sheets.specs.Bytes.{word, word_bytes}
-use Rattle.files.specs.Circles.{Got, cut_words, cut, each, figures_one, figures_or, circle_figures}
+use Rattle.files.specs.Circles.{cut, each, figures_one, circle_figures}
 use Rattle.files.specs.Files.{whole, figure_file}
 use Rattle.files.specs.Laws.{all_bytes, Undo}
 use Rattle.sheets.proofs.Words.{word_back, bytes_back}

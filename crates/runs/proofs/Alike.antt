@@ -1,6 +1,5 @@
 -- ALIKE. The paired coins undo each other, suffice, and let the watched see the same.
 use Rattle.std.proofs.Common.{◌≡◌, ℕ, Bool, List, [], sym, ap, ◌∙◌}
-use Rattle.field.proofs.Ring.{reduced}
 use Rattle.shares.specs.Circle.{Circle}
 use Rattle.sheets.specs.declared.line.Line.{Line}
 use Rattle.runs.specs.Run.{begun}

@@ -1,7 +1,7 @@
 -- Noting the coins that all members are about to draw, one member after the other.
-use Rattle.std.proofs.Common.{◌≡◌, ℕ, zero, suc, ◌+◌, ◌<◌, ◌≤◌, Bool, true, false, cond, ◌||◌, List, [], ◌∷◌, ◌++◌, length, take, sym, refl, ap, ◌∙◌}
+use Rattle.std.proofs.Common.{◌≡◌, ℕ, ◌+◌, ◌<◌, ◌≤◌, Bool, true, false, cond, ◌||◌, List, [], ◌++◌, length, take, sym, refl, ap, ◌∙◌}
 use Rattle.std.proofs.lemmas.Bool.{lt-ltb, le-ltb}
-use Rattle.std.specs.List.{flat_map as concat}
+use Rattle.std.specs.List.{flat_map}
 use Rattle.shares.specs.Circle.{Circle, members}
 use Rattle.sheets.specs.Reading.{any}
 use Rattle.runs.specs.Steps.{lacks}
@@ -41,5 +41,5 @@ module _ (z : Circle) (c : ℕ → Bool) (coins : ℕ → List ℕ) where
   noted-short before k out lt short h =
       sym h.lacking ∙ any_yes (lacks z coins) k z.n lt (lt-ltb (length (coins (k + 1))) z.t short)
 
-  pub noted_all : (before : List ℕ) (k : ℕ) (out : List ℕ) → z.n ≤ k → Noted before k out → (any (lacks z coins) (members z.n) ≡ false) × (out ≡ before ++ concat own (members z.n))
+  pub noted_all : (before : List ℕ) (k : ℕ) (out : List ℕ) → z.n ≤ k → Noted before k out → (any (lacks z coins) (members z.n) ≡ false) × (out ≡ before ++ flat_map own (members z.n))
   noted_all before k out le h = (sym h.lacking ∙ any_done (lacks z coins) k z.n le, left_all own before z.n k out le h.left)

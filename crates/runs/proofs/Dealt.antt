@@ -1,5 +1,5 @@
 -- One dealing: what was drawn, sent and noted.
-use Rattle.std.proofs.Common.{◌≡◌, ℕ, ◌≤◌, Bool, T, List, ◌++◌, map, length, take, Ok, Err, Result, sym, ap, ◌∙◌, subst, inl}
+use Rattle.std.proofs.Common.{◌≡◌, ℕ, ◌≤◌, Bool, T, List, ◌++◌, length, take, Ok, Err, Result, sym, ap, ◌∙◌, subst, inl}
 use Rattle.field.specs.Field.{below}
 use Rattle.field.proofs.Below.{below-take}
 use Rattle.shares.specs.Circle.{Circle}
@@ -7,7 +7,6 @@ use Rattle.shares.specs.Polynomial.{share_of, dealt}
 use Rattle.sheets.specs.Drawing.{after}
 use Rattle.sheets.specs.declared.refusal.Refusal.{Refusal}
 use Rattle.runs.specs.Row.{row_of, picked, Appended}
-use Rattle.runs.specs.Seen.{watched_in}
 use Rattle.runs.specs.Steps.{Reduced, DealtOut}
 use Rattle.runs.proofs.Inrow.{picked-row, dealt-row}
 

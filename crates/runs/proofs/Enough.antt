@@ -1,9 +1,9 @@
 -- ENOUGH. At each line, nothing is missing if and only if those who give and those who deal have what the line takes.
-use Rattle.std.proofs.Common.{◌≡◌, ℕ, zero, suc, ◌+◌, ◌-◌, ◌<◌, ◌≤◌, Bool, true, false, cond, ◌&&◌, ◌||◌, T, eqb, ltb, leb, List, [], ◌∷◌, length, drop, Some, None, Option, sym, refl, ap, ◌∙◌, subst, arith, eqb→eq, ltb→lt, leb→le}
+use Rattle.std.proofs.Common.{◌≡◌, ℕ, ◌+◌, ◌-◌, ◌<◌, ◌≤◌, Bool, true, false, cond, ◌&&◌, ◌||◌, T, eqb, ltb, leb, List, [], ◌∷◌, length, drop, Some, None, Option, sym, refl, ap, ◌∙◌, subst, arith, eqb→eq, ltb→lt, leb→le}
 use lib.Dec.{eqb_refl}
 use Rattle.std.specs.List.{AllByRecursion as All}
 use Rattle.std.proofs.lemmas.List.{length-drop}
-use Rattle.std.proofs.lemmas.Bool.{eqb-false, ltb-false, le-ltb, cond-false}
+use Rattle.std.proofs.lemmas.Bool.{ltb-false, le-ltb, cond-false}
 use Rattle.field.proofs.Below.{both_parts}
 use Rattle.shares.specs.Circle.{Circle, members}
 use Rattle.sheets.specs.Lines.{gives, deals, figures_needed, coins_needed}

@@ -1,17 +1,16 @@
 -- A figure put in: what its parts give together.
-use Rattle.std.proofs.Common.{◌≡◌, ℕ, ◌+◌, ◌<◌, ◌≤◌, Bool, true, false, cond, eqb, ltb, List, [], ◌∷◌, ◌++◌, map, length, get_or, take, Some, None, Option, sym, refl, ap, ◌∙◌, arith}
+use Rattle.std.proofs.Common.{◌≡◌, ℕ, ◌≤◌, Bool, cond, eqb, ltb, List, [], ◌∷◌, ◌++◌, map, length, get_or, take, Some, None, refl, ap, ◌∙◌, arith}
 use Rattle.std.proofs.lemmas.List.{append_assoc, append-nil, get_or-take}
 use Rattle.std.proofs.lemmas.Bool.{ne_eqb, le-ltb, cond-false}
 use Rattle.shares.specs.Circle.{Circle}
 use Rattle.shares.specs.Polynomial.{share_of}
 use Rattle.sheets.specs.Drawing.{after}
 use Rattle.sheets.specs.declared.line.Line.TheVariants.{Input}
-use Rattle.sheets.specs.declared.refusal.Refusal.{Refusal}
 use Rattle.sheets.specs.declared.refusal.Refusal.TheVariants.{NoFigure, NoCoins}
 use Rattle.runs.specs.Row.{row_of}
-use Rattle.runs.specs.Seen.{watched_in, seen_at}
+use Rattle.runs.specs.Seen.{watched_in}
 use Rattle.runs.specs.Short.{short_at}
-use Rattle.runs.specs.Steps.{Dealing, Entered, in_state}
+use Rattle.runs.specs.Steps.{Dealing, Entered}
 
 take-one : (xs : List ℕ) → 1 ≤ length xs → take 1 xs ≡ get_or xs 0 0 ∷ []
 take-one [] le = absurd (omega arith)

@@ -1,12 +1,12 @@
 -- The loop over the lines: what was done, followed by what is left, is the whole.
-use Rattle.std.proofs.Common.{◌≡◌, ℕ, ◌+◌, ◌<◌, ◌≤◌, Bool, ◌&&◌, T, ltb, List, [], ◌∷◌, ◌++◌, map, length, get_or, drop, Some, None, Option, sym, refl, ap, ◌∙◌, subst, subst₂, arith, lt→ltb}
+use Rattle.std.proofs.Common.{◌≡◌, ℕ, ◌+◌, ◌<◌, ◌≤◌, Bool, T, ltb, List, [], ◌∷◌, ◌++◌, map, length, get_or, drop, Some, None, Option, sym, refl, ap, ◌∙◌, subst, subst₂, lt→ltb}
 use Rattle.std.specs.List.{AllByRecursion as All}
 use Rattle.std.proofs.ByRecursion.{All-append}
 use Rattle.std.proofs.lemmas.List.{append_assoc, append-nil, length-append, length-map, at_drop_more, at_drop_all}
-use Rattle.field.specs.Field.{p, ◌⊕◌, ◌⊗◌, below}
+use Rattle.field.specs.Field.{p, below}
 use Rattle.field.proofs.Below.{both_parts, both_from}
 use Rattle.field.proofs.Ring.{⊕-below, ⊗-below}
-use Rattle.shares.specs.Circle.{Circle, m, members}
+use Rattle.shares.specs.Circle.{Circle, members}
 use Rattle.shares.proofs.Dots.{dot-below}
 use Rattle.shares.proofs.Values.{value-below}
 use Rattle.sheets.specs.Lines.{made, good, good_line, deals}
@@ -16,7 +16,7 @@ use Rattle.sheets.specs.declared.line.Line.TheVariants.{Input, Sum, Times, Produ
 use Rattle.sheets.specs.declared.refusal.Refusal.{Refusal}
 use Rattle.runs.specs.Outcome.{AllDone}
 use Rattle.runs.specs.Row.{row_of}
-use Rattle.runs.specs.Run.{State, after, shares, share, sent, opened, opened_by, opens, coins_after, begun}
+use Rattle.runs.specs.Run.{State, after, shares, share, opened, opened_by, opens, coins_after}
 use Rattle.runs.specs.Seen.{seen_at, seen_by, sees}
 use Rattle.runs.specs.Short.{short_at, or_else, runs_out}
 use Rattle.runs.specs.Steps.{Reduced, in_state, Ready, Done}

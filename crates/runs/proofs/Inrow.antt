@@ -1,7 +1,7 @@
 -- Rows of 15 words that hold the values of a function of members.
-use Rattle.std.proofs.Common.{◌≡◌, ℕ, ◌+◌, ◌-◌, ◌<◌, ◌≤◌, Bool, ◌&&◌, T, ltb, leb, List, [], ◌∷◌, map, length, get_or, filter, sym, refl, ap, ◌∙◌, arith, ltb→lt, leb→le}
+use Rattle.std.proofs.Common.{◌≡◌, ℕ, ◌+◌, ◌-◌, ◌<◌, ◌≤◌, Bool, ◌&&◌, T, ltb, leb, List, [], ◌∷◌, map, length, get_or, filter, refl, ap, ◌∙◌, arith, ltb→lt, leb→le}
 use Rattle.std.specs.List.{AllByRecursion as All}
-use Rattle.std.proofs.lemmas.List.FromFn.{length-map-range_with_len, get_or-map-range_with_len}
+use Rattle.std.proofs.lemmas.List.FromFn.{get_or-map-range_with_len}
 use Rattle.field.proofs.Below.{both_parts}
 use Rattle.shares.specs.Circle.{members}
 use Rattle.shares.specs.Polynomial.{share_of, dealt}

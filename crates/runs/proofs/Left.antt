@@ -1,6 +1,6 @@
 -- Loops over members 1 to n that append something for each: what was appended, followed by what is left, is the whole.
-use Rattle.std.proofs.Common.{◌≡◌, ℕ, zero, suc, ◌+◌, ◌-◌, ◌<◌, ◌≤◌, Bool, true, false, cond, ◌⊎◌, List, [], ◌∷◌, ◌++◌, map, length, get_or, filter, sym, refl, ap, ◌∙◌, ap₂, inl, inr, add-one, arith}
-use Rattle.std.specs.List.{range_with_len, flat_map as concat}
+use Rattle.std.proofs.Common.{◌≡◌, ℕ, zero, suc, ◌+◌, ◌-◌, ◌<◌, ◌≤◌, Bool, true, false, cond, ◌⊎◌, List, [], ◌∷◌, ◌++◌, map, length, get_or, filter, sym, refl, ap, ◌∙◌, inl, inr, add-one, arith}
+use Rattle.std.specs.List.{range_with_len, flat_map}
 use Rattle.std.proofs.lemmas.List.{append_assoc, append-nil, get_or_past}
 use Rattle.shares.specs.Circle.{members}
 use Rattle.runs.specs.Row.{in_row}
@@ -20,24 +20,24 @@ pub from_all : (k n : ℕ) → n ≤ k → from k n ≡ []
 from_all k n le = let e : n - k ≡ 0 = omega arith in ap (range_with_len (k + 1)) e
 
 abbrev pub Left : (ℕ → List ℕ) → List ℕ → ℕ → ℕ → List ℕ → Type 0
-Left G before n k out = out ++ concat G (from k n) ≡ before ++ concat G (members n)
+Left G before n k out = out ++ flat_map G (from k n) ≡ before ++ flat_map G (members n)
 
 pub left_none : (G : ℕ → List ℕ) (out : List ℕ) (n : ℕ) → Left G out n 0 out
-left_none G out n = ap (λ (xs : List ℕ). out ++ concat G xs) (from_none n)
+left_none G out n = ap (λ (xs : List ℕ). out ++ flat_map G xs) (from_none n)
 
 pub left_more : (G : ℕ → List ℕ) (before : List ℕ) (n k : ℕ) (out out' piece : List ℕ) → k < n → piece ≡ G (k + 1) → out' ≡ out ++ piece → Left G before n k out → Left G before n (k + 1) out'
 left_more G before n k out out' piece lt is e h =
-    let rest : List ℕ = concat G (from (k + 1) n) in
+    let rest : List ℕ = flat_map G (from (k + 1) n) in
     ap (λ (xs : List ℕ). xs ++ rest) (e ∙ ap (λ (xs : List ℕ). out ++ xs) is)
     ∙ (append_assoc out (G (k + 1)) rest
-    ∙ (sym (ap (λ (xs : List ℕ). out ++ concat G xs) (from_more k n lt)) ∙ h))
+    ∙ (sym (ap (λ (xs : List ℕ). out ++ flat_map G xs) (from_more k n lt)) ∙ h))
 
 pub left_skip : (G : ℕ → List ℕ) (before : List ℕ) (n k : ℕ) (out : List ℕ) → k < n → [] ≡ G (k + 1) → Left G before n k out → Left G before n (k + 1) out
 left_skip G before n k out lt is h = left_more G before n k out out [] lt is (sym (append-nil out)) h
 
-pub left_all : (G : ℕ → List ℕ) (before : List ℕ) (n k : ℕ) (out : List ℕ) → n ≤ k → Left G before n k out → out ≡ before ++ concat G (members n)
+pub left_all : (G : ℕ → List ℕ) (before : List ℕ) (n k : ℕ) (out : List ℕ) → n ≤ k → Left G before n k out → out ≡ before ++ flat_map G (members n)
 left_all G before n k out le h =
-    sym (ap (λ (xs : List ℕ). out ++ concat G xs) (from_all k n le) ∙ append-nil out) ∙ h
+    sym (ap (λ (xs : List ℕ). out ++ flat_map G xs) (from_all k n le) ∙ append-nil out) ∙ h
 
 -- what passes a test, one after the other
 one : (b : Bool) (f : ℕ → ℕ) (x : ℕ) (xs : List ℕ) → map f (cond b (x ∷ xs) xs) ≡ cond b (f x ∷ []) [] ++ map f xs
@@ -47,7 +47,7 @@ one false f x xs = refl
 abbrev pub each : (ℕ → Bool) → (ℕ → ℕ) → ℕ → List ℕ
 each c f j = cond (c j) (f j ∷ []) []
 
-pub kept_is : (c : ℕ → Bool) (f : ℕ → ℕ) (xs : List ℕ) → map f (filter c xs) ≡ concat (each c f) xs
+pub kept_is : (c : ℕ → Bool) (f : ℕ → ℕ) (xs : List ℕ) → map f (filter c xs) ≡ flat_map (each c f) xs
 kept_is c f [] = refl
 kept_is c f (x ∷ xs) = one (c x) f x (filter c xs) ∙ ap (λ (ys : List ℕ). each c f x ++ ys) (kept_is c f xs)
 

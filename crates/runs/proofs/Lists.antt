@@ -1,6 +1,6 @@
 -- Lists that are the same place by place, appended lists taken apart, and what holds of those that pass a test.
 use Rattle.std.proofs.Common.{◌≡◌, ℕ, Bool, true, false, cond, T, List, [], ◌∷◌, ◌++◌, map, length, take, drop, filter, sym, refl, ap, ◌∙◌, ap₂, append_assoc}
-use Rattle.std.specs.List.{flat_map as concat, AllByRecursion as All}
+use Rattle.std.specs.List.{flat_map, AllByRecursion as All}
 use Rattle.std.proofs.lemmas.List.{take_at, drop_at}
 
 pub both_appended : {A : Type 0} {xs xs' ys ys' : List A} → xs ≡ xs' → ys ≡ ys' → xs ++ ys ≡ xs' ++ ys'
@@ -10,7 +10,7 @@ pub map_same : {A B : Type 0} (f g : A → B) (xs : List A) → All (λ x. f x �
 map_same f g [] h = refl
 map_same {B = B} f g (x ∷ xs) h = ap₂ (λ (y : B) (ys : List B). y ∷ ys) h.0 (map_same f g xs h.1)
 
-pub concat-same : {A B : Type 0} (f g : A → List B) (xs : List A) → All (λ x. f x ≡ g x) xs → concat f xs ≡ concat g xs
+pub concat-same : {A B : Type 0} (f g : A → List B) (xs : List A) → All (λ x. f x ≡ g x) xs → flat_map f xs ≡ flat_map g xs
 concat-same f g [] h = refl
 concat-same f g (x ∷ xs) h = both_appended h.0 (concat-same f g xs h.1)
 
@@ -24,10 +24,10 @@ pub map_parts : {A B : Type 0} (f g : A → B) (xs : List A) → map f xs ≡ ma
 map_parts f g [] e = tt
 map_parts f g (x ∷ xs) e = (cc, map_parts f g xs (cc))
 
-pub split_concat : {A B : Type 0} (f g : A → List B) (xs : List A) (ys ys' : List B) → All (λ x. length (f x) ≡ length (g x)) xs → concat f xs ++ ys ≡ concat g xs ++ ys' → All (λ x. f x ≡ g x) xs × (ys ≡ ys')
+pub split_concat : {A B : Type 0} (f g : A → List B) (xs : List A) (ys ys' : List B) → All (λ x. length (f x) ≡ length (g x)) xs → flat_map f xs ++ ys ≡ flat_map g xs ++ ys' → All (λ x. f x ≡ g x) xs × (ys ≡ ys')
 split_concat f g [] ys ys' h e = (tt, e)
 split_concat f g (x ∷ xs) ys ys' h e =
-    let first = split_append (f x) (g x) (concat f xs ++ ys) (concat g xs ++ ys') h.0 (simp append_assoc at e) in
+    let first = split_append (f x) (g x) (flat_map f xs ++ ys) (flat_map g xs ++ ys') h.0 (simp append_assoc at e) in
     let rest = split_concat f g xs ys ys' h.1 first.1 in
     ((first.0, rest.0), rest.1)
 

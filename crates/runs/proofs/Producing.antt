@@ -1,13 +1,13 @@
 -- All members deal their products, one after the other.
-use Rattle.std.proofs.Common.{◌≡◌, ℕ, zero, suc, ◌+◌, ◌-◌, ◌<◌, ◌≤◌, Bool, true, false, cond, ◌&&◌, ◌||◌, T, eqb, ltb, leb, List, [], ◌∷◌, ◌++◌, map, length, get_or, take, drop, replicate, Some, None, Ok, Err, Result, sym, refl, ap, ◌∙◌, subst, ap₂, inl, arith, lit<}
+use Rattle.std.proofs.Common.{◌≡◌, ℕ, zero, suc, ◌+◌, ◌<◌, ◌≤◌, Bool, true, false, cond, ◌&&◌, eqb, ltb, leb, List, [], ◌∷◌, ◌++◌, map, length, get_or, take, drop, replicate, Some, None, Ok, Err, Result, sym, refl, ap, ◌∙◌, subst, ap₂, inl, arith, lit<}
 use mathlib.Core.Path.{fun_ext}
-use Rattle.std.specs.List.{range_with_len, flat_map as concat}
+use Rattle.std.specs.List.{range_with_len, flat_map}
 use Rattle.std.proofs.lemmas.List.FromFn.{length-map-range_with_len}
 use Rattle.std.proofs.lemmas.List.{append_assoc, drop_more, drop_all, get_or-replicate, get_or-take}
 use Rattle.std.proofs.lemmas.Bool.{ltb-false, or_parts, cond-true, cond-false}
 use Rattle.std.proofs.lemmas.Bool.Decides.{nat_tests}
-use Rattle.field.specs.Field.{p, ◌⊕◌, ◌⊗◌, below}
-use Rattle.field.proofs.Ring.{⊕_assoc, ⊕-0, ⊕-below, reduced}
+use Rattle.field.specs.Field.{p, ◌⊕◌, ◌⊗◌}
+use Rattle.field.proofs.Ring.{⊕_assoc, ⊕-0, reduced}
 use Rattle.shares.specs.Circle.{Circle, m, members}
 use Rattle.shares.specs.Polynomial.{share_of}
 use Rattle.shares.specs.Weights.{weights, dot, joined}
@@ -18,7 +18,6 @@ use Rattle.sheets.specs.declared.line.Line.TheVariants.{Product}
 use Rattle.sheets.specs.declared.refusal.Refusal.{Refusal}
 use Rattle.sheets.specs.declared.refusal.Refusal.TheVariants.{NoCoins}
 use Rattle.runs.specs.Row.{row_of}
-use Rattle.runs.specs.Run.{coins_after}
 use Rattle.runs.specs.Seen.{watched_in}
 use Rattle.runs.specs.Steps.{Reduced, lacks, Dealing, dealing, Multiplied, MultipliedAs, ProductAs}
 use Rattle.runs.specs.Short.{short_at}
@@ -176,10 +175,10 @@ module _ (z : Circle) (c : ℕ → Bool) (f g : ℕ → ℕ) (coins : ℕ → Li
 
 -- with the coins noted before
 pub producing : (z : Circle) (c : ℕ → Bool) (f g : ℕ → ℕ) (coins coins' : ℕ → List ℕ) (seen seen₁ seen₂ : List ℕ) (r : Result (List ℕ) Refusal) → any (lacks z coins) (members z.n) ≡ false →
-    seen₁ ≡ seen ++ concat (λ i. cond (c i) (take z.t (coins i)) []) (members z.n) → MultipliedAs z c f g coins coins' seen₁ seen₂ r → ProductAs z c f g coins coins' seen seen₂ r
+    seen₁ ≡ seen ++ flat_map (λ i. cond (c i) (take z.t (coins i)) []) (members z.n) → MultipliedAs z c f g coins coins' seen₁ seen₂ r → ProductAs z c f g coins coins' seen seen₂ r
 producing z c f g coins coins' seen seen₁ seen₂ (Ok row) e noted h =
-    let own : List ℕ = concat (λ i. cond (c i) (take z.t (coins i)) []) (members z.n) in
-    let got : List ℕ = concat (λ i. map (dealing z f g coins i) (watched_in z c)) (members z.n) in
+    let own : List ℕ = flat_map (λ i. cond (c i) (take z.t (coins i)) []) (members z.n) in
+    let got : List ℕ = flat_map (λ i. map (dealing z f g coins i) (watched_in z c)) (members z.n) in
     record {
       enough = cond-false (any (lacks z coins) (members z.n)) (Some NoCoins) None e;
       moved = h.moved;

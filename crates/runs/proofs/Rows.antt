@@ -7,7 +7,7 @@ use Rattle.std.proofs.lemmas.List.FromFn.{take-map-range_with_len}
 use Rattle.std.proofs.lemmas.List.{length-map, length-replicate}
 use Rattle.field.specs.Field.{p, ◌⊕◌, ◌⊗◌, below}
 use Rattle.field.proofs.Below.{both_from}
-use Rattle.field.proofs.Ring.{⊕-below, ⊗-below, reduced}
+use Rattle.field.proofs.Ring.{⊕-below, ⊗-below}
 use Rattle.shares.specs.Circle.{Circle, m, Fits, members}
 use Rattle.shares.specs.Polynomial.{value, share_of, added, scaled}
 use Rattle.shares.specs.Weights.{weights, dot, joined}

@@ -1,9 +1,9 @@
 -- Lines done by the code, each kind in terms of the run.
-use Rattle.std.proofs.Common.{◌≡◌, ℕ, zero, suc, ◌+◌, ◌<◌, ◌≤◌, Bool, ◌&&◌, T, ltb, List, [], ◌∷◌, ◌++◌, map, length, get_or, take, Some, Ok, Err, Result, sym, refl, ap, ◌∙◌, subst, ap₂, inl, arith, ltb→lt}
+use Rattle.std.proofs.Common.{◌≡◌, ℕ, zero, suc, ◌<◌, ◌≤◌, Bool, ◌&&◌, T, ltb, List, [], ◌∷◌, ◌++◌, map, length, get_or, take, Some, Ok, Err, Result, sym, refl, ap, ◌∙◌, subst, ap₂, inl, arith, ltb→lt}
 use Rattle.std.specs.List.{AllByRecursion as All}
 use Rattle.std.proofs.lemmas.List.FromFn.{length-map-range_with_len, take-map-range_with_len}
 use Rattle.std.proofs.ByRecursion.{All-get_or}
-use Rattle.std.proofs.lemmas.List.{append_assoc, append-nil, map-append, get_or_read}
+use Rattle.std.proofs.lemmas.List.{append-nil, map-append, get_or_read}
 use Rattle.field.specs.Field.{p, ◌⊕◌, ◌⊗◌, below}
 use Rattle.field.proofs.Below.{both_parts}
 use Rattle.shares.specs.Circle.{Circle, m, members}
@@ -14,8 +14,7 @@ use Rattle.sheets.specs.declared.line.Line.{Line}
 use Rattle.sheets.specs.declared.line.Line.TheVariants.{Input, Sum, Times, Product, Open}
 use Rattle.sheets.specs.declared.refusal.Refusal.{Refusal}
 use Rattle.runs.specs.Row.{row_of}
-use Rattle.runs.specs.Run.{State, shares, share}
-use Rattle.runs.specs.Seen.{seen_at}
+use Rattle.runs.specs.Run.{State, share}
 use Rattle.runs.specs.Short.{short_at}
 use Rattle.runs.specs.Steps.{in_state, Entered, Producing, ShownAs, KeptAs, DoneAs}
 use Rattle.runs.proofs.Inrow.{at_place, row_from}

@@ -1,5 +1,5 @@
 -- The whole run: what is looked at first, what the lines give, and the theorems on it.
-use Rattle.std.proofs.Common.{◌≡◌, ℕ, ◌≤◌, Bool, true, false, T, ◌⊎◌, List, length, Ok, Err, Result, sym, refl, ap, ◌∙◌, subst, inl, inr, Bor}
+use Rattle.std.proofs.Common.{◌≡◌, ℕ, ◌≤◌, Bool, true, false, T, List, length, Ok, Err, Result, sym, ◌∙◌, subst, inl, inr, Bor}
 use Rattle.shares.specs.Circle.{Circle, Fits}
 use Rattle.sheets.specs.Families.{family, of}
 use Rattle.sheets.specs.Lines.{good}

@@ -1,5 +1,5 @@
 -- The theorems of a sheet done on shares: it is right, nobody learns more, and what it takes.
-use Rattle.std.specs.Prelude.{◌≡◌, ℕ, ◌+◌, ◌<◌, ◌≤◌, Bool, T, List, length, get_or, take, drop, None}
+use Rattle.std.specs.Prelude.{◌≡◌, ℕ, ◌+◌, ◌<◌, ◌≤◌, Bool, T, List, length, take, drop, None}
 use Rattle.field.specs.Field.{below}
 use Rattle.shares.specs.Circle.{Circle, Fits}
 use Rattle.shares.specs.Polynomial.{value}

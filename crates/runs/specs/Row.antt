@@ -1,6 +1,6 @@
 -- Rows of shares as the code holds them: 15 words, member j's at place j - 1.
 use Rattle.std.specs.Prelude.{◌≡◌, ℕ, ◌-◌, Bool, List, ◌++◌, map, Ok, Err, filter, Result, slice_index}
-use Rattle.shares.specs.Circle.{Circle, members}
+use Rattle.shares.specs.Circle.{members}
 use Rattle.sheets.specs.declared.refusal.Refusal.{Refusal}
 use Rattle.sheets.specs.declared.refusal.Refusal.TheVariants.{NoMemory}
 

@@ -1,8 +1,7 @@
 -- What watched members see of a run, line by line. Who is watched is a test of members.
-use Rattle.std.specs.Prelude.{ℕ, zero, suc, ◌+◌, Bool, true, cond, List, [], ◌∷◌, ◌++◌, map, filter, slice_index}
-use Rattle.std.specs.List.{flat_map as concat}
+use Rattle.std.specs.Prelude.{ℕ, zero, suc, ◌+◌, Bool, cond, List, [], ◌∷◌, ◌++◌, map, filter, slice_index}
+use Rattle.std.specs.List.{flat_map}
 use Rattle.shares.specs.Circle.{Circle, members}
-use Rattle.sheets.specs.Lines.{gives, deals}
 use Rattle.sheets.specs.declared.line.Line.{Line}
 use Rattle.sheets.specs.declared.line.Line.TheVariants.{Input, Sum, Times, Product, Open}
 use Rattle.runs.specs.Run.{State, begun, row, drawn, sent, after}
@@ -29,11 +28,11 @@ own_figure c (Open a) s = []
 
 -- the coins that watched dealers drew, dealer by dealer
 abbrev pub own_coins : Circle → (ℕ → Bool) → Line → State → List ℕ
-own_coins z c l s = concat (λ i. cond (c i) (drawn z s i) []) (dealers z l)
+own_coins z c l s = flat_map (λ i. cond (c i) (drawn z s i) []) (dealers z l)
 
 -- from each dealer in order what it sent to each watched member
 abbrev pub received : Circle → (ℕ → Bool) → Line → State → List ℕ
-received z c l s = concat (λ i. map (sent z l s i) (watched_in z c)) (dealers z l)
+received z c l s = flat_map (λ i. map (sent z l s i) (watched_in z c)) (dealers z l)
 
 -- what everybody is shown: at an open line all n shares
 abbrev pub shown : Circle → Line → State → List ℕ

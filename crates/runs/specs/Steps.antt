@@ -1,7 +1,7 @@
 -- What the parts of a line do, each in terms of the run.
-use Rattle.std.specs.Prelude.{◌≡◌, ℕ, ◌<◌, ◌≤◌, Bool, true, false, cond, ◌&&◌, T, ◌⊎◌, List, [], ◌∷◌, ◌++◌, map, length, take, Some, None, Ok, Err, Result, nat_lt, slice_index}
-use Rattle.std.specs.List.{flat_map as concat, AllByRecursion as All}
-use Rattle.field.specs.Field.{p, ◌⊗◌, below}
+use Rattle.std.specs.Prelude.{◌≡◌, ℕ, ◌<◌, ◌≤◌, Bool, true, false, cond, T, ◌⊎◌, List, [], ◌∷◌, ◌++◌, map, length, take, Some, None, Ok, Err, Result, nat_lt, slice_index}
+use Rattle.std.specs.List.{flat_map, AllByRecursion}
+use Rattle.field.specs.Field.{◌⊗◌, below}
 use Rattle.shares.specs.Circle.{Circle, m, members}
 use Rattle.shares.specs.Polynomial.{share_of}
 use Rattle.shares.specs.Weights.{joined}
@@ -36,7 +36,7 @@ lacks z coins i = nat_lt (length (coins i)) z.t
 abbrev pub AllCoinsNoted : Circle → (ℕ → Bool) → (ℕ → List ℕ) → List ℕ → List ℕ → Result (Unit {0}) Refusal → Type 0
 AllCoinsNoted z c coins seen seen' (Ok u) =
     (any (lacks z coins) (members z.n) ≡ false)
-    × (seen' ≡ seen ++ concat (λ i. cond (c i) (take z.t (coins i)) []) (members z.n))
+    × (seen' ≡ seen ++ flat_map (λ i. cond (c i) (take z.t (coins i)) []) (members z.n))
 AllCoinsNoted z c coins seen seen' (Err e) = (e ≡ NoMemory) ⊎ ((e ≡ NoCoins) × (any (lacks z coins) (members z.n) ≡ true))
 
 -- member w deals a number to all under its next t coins, and those who are watched see their shares
@@ -69,7 +69,7 @@ dealing z f g coins i = share_of (f i ⊗ g i) (take z.t (coins i))
 pub record Multiplied (z : Circle) (c : ℕ → Bool) (f g : ℕ → ℕ) (coins coins' : ℕ → List ℕ) (seen seen' row : List ℕ) : Type 0 where
   pub moved : coins' ≡ coins_after z (Product 0 0) coins
   pub made : row ≡ row_of (λ j. joined (m z) (map (λ i. dealing z f g coins i j) (members z.n)))
-  pub noted : seen' ≡ seen ++ concat (λ i. map (dealing z f g coins i) (watched_in z c)) (members z.n)
+  pub noted : seen' ≡ seen ++ flat_map (λ i. map (dealing z f g coins i) (watched_in z c)) (members z.n)
 
 abbrev pub MultipliedAs : Circle → (ℕ → Bool) → (ℕ → ℕ) → (ℕ → ℕ) → (ℕ → List ℕ) → (ℕ → List ℕ) → List ℕ → List ℕ → Result (List ℕ) Refusal → Type 0
 MultipliedAs z c f g coins coins' seen seen' (Ok row) = Multiplied z c f g coins coins' seen seen' row
@@ -80,7 +80,7 @@ pub record Producing (z : Circle) (c : ℕ → Bool) (f g : ℕ → ℕ) (coins 
   pub enough : short_at z (Product 0 0) coins coins ≡ None
   pub moved : coins' ≡ coins_after z (Product 0 0) coins
   pub made : row ≡ row_of (λ j. joined (m z) (map (λ i. dealing z f g coins i j) (members z.n)))
-  pub noted : seen' ≡ seen ++ (concat (λ i. cond (c i) (take z.t (coins i)) []) (members z.n) ++ concat (λ i. map (dealing z f g coins i) (watched_in z c)) (members z.n))
+  pub noted : seen' ≡ seen ++ (flat_map (λ i. cond (c i) (take z.t (coins i)) []) (members z.n) ++ flat_map (λ i. map (dealing z f g coins i) (watched_in z c)) (members z.n))
 
 abbrev pub ProductAs : Circle → (ℕ → Bool) → (ℕ → ℕ) → (ℕ → ℕ) → (ℕ → List ℕ) → (ℕ → List ℕ) → List ℕ → List ℕ → Result (List ℕ) Refusal → Type 0
 ProductAs z c f g coins coins' seen seen' (Ok row) = Producing z c f g coins coins' seen seen' row
@@ -100,7 +100,7 @@ KeptAs row before after (Err e) = e ≡ NoMemory
 -- what a line asks of the rows held and the lists left
 pub record Ready (z : Circle) (l : Line) (rows : List (List ℕ)) (figures coins : ℕ → List ℕ) : Type 0 where
   pub good : T (good_line z.n (length rows) l)
-  pub small : All (λ row. T (below row)) rows
+  pub small : AllByRecursion (λ row. T (below row)) rows
   pub figures_small : Reduced figures
   pub coins_small : Reduced coins
 

@@ -1,6 +1,6 @@
 -- Reading undoes writing, and writing undoes reading.
 use Rattle.std.proofs.Common.{◌≡◌, ℕ, zero, suc, ◌+◌, ◌*◌, ◌/◌, ◌%◌, ◌<◌, ◌≤◌, Bool, true, false, cond, not, ◌&&◌, ◌||◌, T, eqb, ltb, leb, ◌⊎◌, List, [], ◌∷◌, ◌++◌, map, length, get_or, take, drop, Some, None, Option, sym, refl, ap, ◌∙◌, subst, ap₂, inl, inr, ⊎_elim, arith, lit<}
-use Rattle.std.specs.List.{flat_map as concat, AllByRecursion as All}
+use Rattle.std.specs.List.{flat_map, AllByRecursion as All}
 use Rattle.std.proofs.lemmas.Bool.{and_parts, ltb-true, leb-true, le-ltb, eq-eqb, eqb-false, eqb-true, ltb-false, or_parts, cases_eq}
 use Rattle.std.proofs.lemmas.List.{drop_more, drop_all, nil_from_length, length-take-le, length-drop, length-map, take-append-drop}
 use Rattle.std.proofs.ByRecursion.{All-get_or, All-take, All-drop}
@@ -41,7 +41,7 @@ well-formed (Product a e) = refl
 well-formed (Open a) = refl
 
 -- the parts of written lines are their bytes
-parts_back : (ls : List Line) → nines (length ls) (concat line_bytes ls) ≡ map line_bytes ls
+parts_back : (ls : List Line) → nines (length ls) (flat_map line_bytes ls) ≡ map line_bytes ls
 unfolding nines
 parts_back [] = refl
 parts_back (Input w ∷ ls) = ap (λ (xs : List (List ℕ)). line_bytes (Input w) ∷ xs) (parts_back ls)
@@ -91,7 +91,7 @@ lines_clean n k (l ∷ ls) small g =
     let rest = lines_clean n (made l k) ls (omega (arith, made_at_most l k)) h.1 in
     (ap₂ ◌||◌ here.0 rest.0, ap₂ ◌||◌ here.1 rest.1)
 
-length_lines : (ls : List Line) → length (concat line_bytes ls) ≡ 9 * length ls
+length_lines : (ls : List Line) → length (flat_map line_bytes ls) ≡ 9 * length ls
 length_lines [] = refl
 length_lines (Input w ∷ ls) = omega (arith, length_lines ls)
 length_lines (Sum a e ∷ ls) = omega (arith, length_lines ls)
@@ -108,7 +108,7 @@ reread n t lines h =
     let bs : List ℕ = sheet_bytes n t lines in
     let good-true : good n 0 lines ≡ true = T_true (good n 0 lines) h.well in
     let count : count_of bs ≡ length lines = omega (arith, h.short) in
-    let parts : parts_of bs ≡ map line_bytes lines = ap (λ (k : ℕ). nines k (concat line_bytes lines)) count ∙ parts_back lines in
+    let parts : parts_of bs ≡ map line_bytes lines = ap (λ (k : ℕ). nines k (flat_map line_bytes lines)) count ∙ parts_back lines in
     let same : lines_of bs ≡ lines = ap (map line_of) parts ∙ lines_back n 0 lines h.few (omega (arith, h.short)) good-true in
     let long : length bs ≡ 5 + 9 * count_of bs = omega (arith, length_lines lines) in
     let form : malformed_sheet bs ≡ false = ap₂ (λ (x y : Bool). not x || y) (eq-eqb (length bs) (5 + 9 * count_of bs) long) (ap (any malformed) parts ∙ none_malformed lines) in
@@ -183,7 +183,7 @@ part_back xs len bytes ok =
     let kindly = or_parts (eqb kind 0) (ltb 5 kind) parts.0 in
     kind_back kind (first_of xs) (second_of xs) (eqb-false kind 0 kindly.0) (ltb-false 5 kind kindly.1) (second_zero kind (second_of xs) parts.1) ∙ nine_back xs len bytes
 
-parts_rewritten : (count : ℕ) (bs : List ℕ) → length bs ≡ 9 * count → All (λ b. b < 256) bs → any malformed (nines count bs) ≡ false → concat line_bytes (map line_of (nines count bs)) ≡ bs
+parts_rewritten : (count : ℕ) (bs : List ℕ) → length bs ≡ 9 * count → All (λ b. b < 256) bs → any malformed (nines count bs) ≡ false → flat_map line_bytes (map line_of (nines count bs)) ≡ bs
 unfolding nines
 parts_rewritten zero bs len bytes ok = sym (nil_from_length bs (omega arith))
 parts_rewritten (suc count) bs len bytes ok =
@@ -223,6 +223,6 @@ rewritten bs bytes e =
     let b4 : get_or bs 4 0 < 256 = All-get_or (λ b. b < 256) bs 4 0 (omega arith) bytes in
     let high : length (lines_of bs) / 256 % 256 ≡ get_or bs 3 0 = omega arith in
     let low : length (lines_of bs) % 256 ≡ get_or bs 4 0 = omega arith in
-    let body : concat line_bytes (lines_of bs) ≡ drop 5 bs = parts_rewritten (count_of bs) (drop 5 bs) (length-drop 5 bs ∙ omega arith) (All-drop (λ b. b < 256) 5 bs bytes) form.1 in
+    let body : flat_map line_bytes (lines_of bs) ≡ drop 5 bs = parts_rewritten (count_of bs) (drop 5 bs) (length-drop 5 bs ∙ omega arith) (All-drop (λ b. b < 256) 5 bs bytes) form.1 in
     let whole = headed bs (omega arith) in
     cc

@@ -1,7 +1,7 @@
 -- The bytes of sheets: 1, n, t, the number of lines (2), and for each line its kind and two numbers (4 each),
 -- high byte first. The second number is 0 where the kind has only one.
 use Rattle.std.specs.Prelude.{ℕ, ◌+◌, ◌*◌, ◌/◌, ◌%◌, List, [], ◌∷◌, ◌++◌, length, slice_index}
-use Rattle.std.specs.List.{flat_map as concat}
+use Rattle.std.specs.List.{flat_map}
 use Rattle.sheets.specs.declared.line.Line.{Line}
 use Rattle.sheets.specs.declared.line.Line.TheVariants.{Input, Sum, Times, Product, Open}
 
@@ -30,4 +30,4 @@ abbrev pub head_bytes : ℕ → ℕ → ℕ → List ℕ
 head_bytes n t count = 1 ∷ n ∷ t ∷ (count / 256 % 256) ∷ (count % 256) ∷ []
 
 abbrev pub sheet_bytes : ℕ → ℕ → List Line → List ℕ
-sheet_bytes n t lines = head_bytes n t (length lines) ++ concat line_bytes lines
+sheet_bytes n t lines = head_bytes n t (length lines) ++ flat_map line_bytes lines

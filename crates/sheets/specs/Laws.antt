@@ -1,6 +1,6 @@
 -- What holds of reading and writing sheets, each a statement that a function's contract carries.
 use Rattle.std.specs.Prelude.{◌≡◌, ℕ, ◌+◌, ◌<◌, ◌≤◌, T, List, length, None}
-use Rattle.std.specs.List.{AllByRecursion as All}
+use Rattle.std.specs.List.{AllByRecursion}
 use Rattle.sheets.specs.Bytes.{sheet_bytes}
 use Rattle.sheets.specs.Faults.{Fault}
 use Rattle.sheets.specs.Lines.{good}
@@ -16,7 +16,7 @@ Judgement = (bs : List ℕ) → Answers (Fault bs) (verdict bs)
 -- Writing what was read gives the bytes back, so no two byte strings are one sheet.
 abbrev pub Rewritten : Type 0
 Rewritten =
-    (bs : List ℕ) → All (λ b. b < 256) bs → verdict bs ≡ None →
+    (bs : List ℕ) → AllByRecursion (λ b. b < 256) bs → verdict bs ≡ None →
     sheet_bytes (members_of bs) (threshold_of bs) (lines_of bs) ≡ bs
 
 -- Reading what was written gives the sheet back.

@@ -2,7 +2,7 @@
 ghost use Rattle.std.specs.Prelude.{◌≡◌, ◌+◌, ◌*◌, ◌≤◌, ◌++◌, length, vec_len, vec_capacity};
 ghost use Rattle.sheets.specs.Bytes.{raw_bytes, line_bytes, head_bytes, sheet_bytes};
 ghost use Rattle.sheets.specs.Outcome.{AppendedBy};
-ghost use Rattle.std.specs.List.{flat_map as concat};
+ghost use Rattle.std.specs.List.{flat_map};
 
 use crate::line::Line;
 use crate::refusal::Refusal;
@@ -56,7 +56,7 @@ fn head(n: u8, t: u8, count: u16) -> [u8; 5]
 // Appends the bytes of all lines to a vector that has room for them.
 fn append_lines(out: &mut Vec<u8>, lines: &[Line])
     requires { vec_len out.old + 9 * length lines.now ≤ vec_capacity out.old }
-    ensures { out.new.items ≡ out.old.items ++ concat line_bytes lines.now }
+    ensures { out.new.items ≡ out.old.items ++ flat_map line_bytes lines.now }
 {
     for line in lines {
         append(out, &line.write());

@@ -1,6 +1,5 @@
-use Rattle.std.proofs.Common.{◌≡◌, ℕ, ◌+◌, ◌-◌, Bool, true, false, ◌||◌, eqb, List, get_or, drop, sym, refl, ap, ◌∙◌}
+use Rattle.std.proofs.Common.{ℕ, ◌+◌, ◌-◌, Bool, true, false, ◌||◌, eqb, get_or, sym, refl, ap, ◌∙◌}
 use Rattle.std.proofs.lemmas.List.{length-set}
-use Rattle.sheets.specs.Reading.{any}
 use Rattle.sheets.proofs.Judged.{any_hit, any_more, any_all}
 use Rattle.console.specs.Numbers.{outside}
 use Rattle.console.proofs.Sets.{inside, set_more, false_right}

@@ -1,4 +1,4 @@
-use Rattle.std.proofs.Common.{◌≡◌, ℕ, ◌+◌, ◌<◌, Bool, false, ◌||◌, eqb, length, get_or, drop}
+use Rattle.std.proofs.Common.{◌≡◌, ℕ, ◌+◌, ◌<◌, false, ◌||◌, eqb, length, get_or, drop}
 use Rattle.sheets.specs.Reading.{any}
 use Rattle.console.specs.Numbers.{outside}
 use Rattle.console.proofs.members.member_set.Given as goal

@@ -1,4 +1,4 @@
-use Rattle.std.proofs.Common.{◌≡◌, ℕ, ◌+◌, List, [], ◌∷◌, ◌++◌, map, drop, vec_items, string_bytes, sym, ap, ◌∙◌}
+use Rattle.std.proofs.Common.{ℕ, ◌+◌, List, map, drop, vec_items, string_bytes, sym, ap, ◌∙◌}
 use Rattle.console.specs.Numbers.{number_in, numbers_after}
 use Rattle.console.proofs.WordLists.{words_more, words_bad, words_all}
 use Rattle.console.proofs.members.member_words.Goals as goal

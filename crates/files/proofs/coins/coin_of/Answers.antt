@@ -1,4 +1,4 @@
-use Rattle.std.proofs.Common.{◌≡◌, ℕ, Some, None, Option, sym, ap, ◌∙◌, rules}
+use Rattle.std.proofs.Common.{◌≡◌, ℕ, Some, None, sym, ap, ◌∙◌, rules}
 use lib.Bits.{bit_and}
 use Rattle.field.specs.Field.{p}
 use Rattle.std.proofs.lemmas.Nat.{and_mask}

@@ -1,5 +1,4 @@
 use Rattle.std.proofs.Common.{vec_items, vec_len, vec_capacity, rules}
-use Rattle.files.specs.Files.{coins_of}
 use Rattle.files.specs.Words.{words}
 use Rattle.files.proofs.CoinSteps.{keep_more, skip_more, coins_done}
 use Rattle.files.proofs.coins.split_coins.Goals as goal

@@ -1,4 +1,4 @@
-use Rattle.std.proofs.Common.{vec_items, sym, refl, ◌∙◌, rules}
+use Rattle.std.proofs.Common.{vec_items, refl, rules}
 use Rattle.files.proofs.Refused.{unless_weaker}
 use Rattle.files.proofs.WriteCircle.{grown_none, grown_more, grown_back, fits_more, fits_not, fits_all, circle_more, circle_all}
 use Rattle.files.proofs.writing.write_circle_figures.Goals as goal

@@ -1,4 +1,4 @@
-use Rattle.std.proofs.Common.{◌<◌, length, arith, lt→ltb, rules}
+use Rattle.std.proofs.Common.{◌<◌, length, arith, lt→ltb}
 use Rattle.files.proofs.WriteSteps.{list_written}
 use Rattle.files.proofs.writing.write_list.Goals as goal
 

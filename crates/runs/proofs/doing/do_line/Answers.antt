@@ -1,6 +1,5 @@
-use Rattle.std.proofs.Common.{◌≡◌, length, get_or, vec_items, sym, subst, inl, inr, rules}
+use Rattle.std.proofs.Common.{◌≡◌, length, vec_items, inl, inr, rules}
 use Rattle.sheets.specs.Families.{family, of}
-use Rattle.sheets.specs.declared.line.Line.{Line}
 use Rattle.runs.specs.Run.{share}
 use Rattle.runs.specs.Setups.{circle_in}
 use Rattle.runs.specs.Steps.{in_state}

@@ -1,8 +1,8 @@
-use Rattle.std.proofs.Common.{vec_items, inl, inr, rules}
+use Rattle.std.proofs.Common.{vec_items, inl, inr}
 use Rattle.sheets.specs.Families.{family, of}
 use Rattle.runs.specs.Setups.{circle_in}
 use Rattle.runs.specs.Watching.{watches}
-use Rattle.runs.proofs.Coins.{Noted, noted_none, noted_more, noted-short, noted_all}
+use Rattle.runs.proofs.Coins.{noted_none, noted_more, noted-short, noted_all}
 use Rattle.runs.proofs.noting.note_all_coins.Goals as goal
 
 pub loop-k-init : goal.loop-k-init

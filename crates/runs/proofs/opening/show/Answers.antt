@@ -1,4 +1,4 @@
-use Rattle.std.proofs.Common.{◌≡◌, ℕ, List, [], ◌∷◌, ◌++◌, vec_items, ap, ◌∙◌}
+use Rattle.std.proofs.Common.{ℕ, List, [], ◌∷◌, ◌++◌, vec_items, ap, ◌∙◌}
 use Rattle.runs.specs.Setups.{circle_in}
 use Rattle.runs.proofs.Stepped.{front_row, joined-row}
 use Rattle.runs.proofs.opening.show.Goals as goal

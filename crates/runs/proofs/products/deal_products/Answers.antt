@@ -1,15 +1,14 @@
-use Rattle.std.proofs.Common.{◌≡◌, ℕ, ◌+◌, ◌<◌, ◌≤◌, List, length, get_or, replicate, vec_items, sym, refl, ap, ◌∙◌, subst, inl, inr, rules}
+use Rattle.std.proofs.Common.{◌≡◌, ℕ, ◌+◌, ◌<◌, List, length, get_or, replicate, vec_items, sym, refl, ap, ◌∙◌, subst, inl, inr, rules}
 use Rattle.field.specs.Field.{p, ◌⊕◌, ◌⊗◌}
 use Rattle.field.proofs.Ring.{⊕-below}
 use Rattle.shares.specs.Circle.{m}
 use Rattle.shares.specs.Weights.{weights}
 use Rattle.sheets.specs.Drawing.{after}
 use Rattle.sheets.specs.Families.{family, of}
-use Rattle.runs.specs.Row.{row_of}
 use Rattle.runs.specs.Setups.{circle_in}
 use Rattle.runs.specs.Steps.{Reduced}
 use Rattle.runs.specs.Watching.{watches}
-use Rattle.runs.proofs.Producing.{drawn_by, drawn_none, drawn_more, drawn-reduced, never_short, zeros, zeros_below, weight_at, Dealings, dealings_none, dealings_more, dealings_skip, dealings_all}
+use Rattle.runs.proofs.Producing.{drawn_by, drawn_none, drawn_more, drawn-reduced, never_short, zeros, zeros_below, weight_at, dealings_none, dealings_more, dealings_skip, dealings_all}
 use Rattle.runs.proofs.products.deal_products.Goals as goal
 use Rattle.runs.proofs.products.deal_products.Goals.{then-i-setup, else-i-setup}
 

@@ -2,7 +2,7 @@ use Rattle.std.proofs.Common.{vec_items, inl, inr}
 use Rattle.sheets.specs.Families.{family, of}
 use Rattle.runs.specs.Setups.{circle_in}
 use Rattle.runs.specs.Watching.{watches}
-use Rattle.runs.proofs.Going.{Going, going_ready, going_short, going_more, going_all}
+use Rattle.runs.proofs.Going.{going_ready, going_short, going_more, going_all}
 use Rattle.runs.proofs.running.run_lines.Goals as goal
 
 pub do_line-requires : goal.do_line-requires

@@ -1,5 +1,5 @@
 use Rattle.std.proofs.Common.{◌≡◌, ℕ, List, ◌++◌, length, vec_items, ap, ◌∙◌, ap₂}
-use Rattle.std.specs.List.{flat_map as concat}
+use Rattle.std.specs.List.{flat_map}
 use Rattle.std.proofs.lemmas.List.{append_assoc}
 use Rattle.sheets.specs.Bytes.{line_bytes, head_bytes}
 use Rattle.sheets.specs.declared.line.Line.{Line}
@@ -14,5 +14,5 @@ returns c =
     c.append.ensures.items
     ∙ ap₂ ◌++◌ c.in-Ok.ensures.items (c.head.ensures ∙ ap (head_bytes s.n s.t) (c.len-count.ensures ∙ s.lines.ok.0)) in
     c.append_lines.ensures
-    ∙ (ap₂ (λ (l : List ℕ) (ls : List Line). l ++ concat line_bytes ls) front c.deref.ensures.value
-    ∙ append_assoc before (head_bytes s.n s.t (length lines)) (concat line_bytes lines))
+    ∙ (ap₂ (λ (l : List ℕ) (ls : List Line). l ++ flat_map line_bytes ls) front c.deref.ensures.value
+    ∙ append_assoc before (head_bytes s.n s.t (length lines)) (flat_map line_bytes lines))
