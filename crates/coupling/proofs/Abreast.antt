@@ -1,6 +1,6 @@
 -- One line of both runs: the coins that the second is lent are the paired ones.
-use Rattle.std.proofs.Common.{◌≡◌, ℕ, zero, suc, ◌+◌, ◌-◌, ◌<◌, ◌≤◌, Bool, true, false, cond, ◌&&◌, T, eqb, ltb, leb, ◌⊎◌, List, [], ◌∷◌, ◌++◌, map, length, get_or, take, Some, None, Ok, Err, Option, Result, sym, refl, ap, ◌∙◌, subst, ap₂, inl, inr, ⊎_elim, arith, eqb→eq, ltb→lt, leb→le}
-use Rattle.std.proofs.lemmas.List.{get_or_past, length-take-le, take_all}
+use Rattle.std.proofs.Common.{◌≡◌, ℕ, zero, suc, ◌+◌, ◌<◌, ◌≤◌, Bool, true, false, cond, T, ltb, leb, ◌⊎◌, List, [], ◌++◌, map, length, get_or, take, Some, None, Ok, Err, Option, Result, sym, refl, ap, ◌∙◌, subst, ap₂, inl, inr, ⊎_elim, arith, eqb→eq, ltb→lt, leb→le}
+use Rattle.std.proofs.lemmas.List.{get_or_past, length-take-le}
 use Rattle.std.proofs.lemmas.Bool.{cases_lt}
 use Rattle.field.specs.Field.{below, all_below}
 use Rattle.field.proofs.Below.{both_parts, below-take}
@@ -15,15 +15,15 @@ use Rattle.sheets.specs.declared.refusal.Refusal.TheVariants.{NoMemory}
 use Rattle.runs.specs.Row.{row_of}
 use Rattle.runs.specs.Steps.{Reduced}
 use Rattle.runs.specs.Pairing.{shifted, paired_draw, with_coins}
-use Rattle.runs.specs.Run.{State, after, opened, shares, secret, drawn}
+use Rattle.runs.specs.Run.{State, opened, shares, secret, drawn}
 use Rattle.runs.specs.Short.{short_at}
-use Rattle.runs.proofs.Enough.{Has, short-from}
+use Rattle.runs.proofs.Enough.{short-from}
 use Rattle.runs.proofs.Pairs.{secret-coins, shares-same}
 use Rattle.runs.proofs.Shifts.{difference, length-shifted}
 use Rattle.runs.specs.Steps.{in_state, Done, DoneAs}
 use Rattle.coupling.specs.Growing.{Grown}
-use Rattle.coupling.specs.Sides.{Side, Drawable, DrawnAs, LentAs}
-use Rattle.coupling.specs.Steps.{Steady, Both, BothAs}
+use Rattle.coupling.specs.Sides.{Side, DrawnAs, LentAs}
+use Rattle.coupling.specs.Steps.{Steady, BothAs}
 use Rattle.coupling.proofs.Draws.{below_at}
 
 -- who deals for a good line is a member

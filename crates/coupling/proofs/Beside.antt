@@ -1,5 +1,5 @@
 -- Both runs, line after line: what was done, followed by what is left, is the whole.
-use Rattle.std.proofs.Common.{◌≡◌, ℕ, zero, suc, ◌+◌, ◌<◌, ◌≤◌, Bool, cond, ◌&&◌, T, List, [], ◌∷◌, ◌++◌, map, length, get_or, take, drop, sym, refl, ap, ◌∙◌, subst, ap₂, ⊎_elim, arith}
+use Rattle.std.proofs.Common.{◌≡◌, ℕ, zero, suc, ◌+◌, ◌<◌, cond, T, List, [], ◌∷◌, ◌++◌, map, length, get_or, take, drop, sym, refl, ap, ◌∙◌, subst, ap₂, ⊎_elim, arith}
 use mathlib.Core.Path.{fun_ext}
 use Rattle.std.specs.List.{AllByRecursion as All}
 use Rattle.std.proofs.ByRecursion.{All-append}
@@ -17,12 +17,12 @@ use Rattle.runs.specs.Laws.{Figures, Coins}
 use Rattle.runs.specs.Pairing.{paired_draw, with_coins, paired_coins}
 use Rattle.runs.specs.Run.{State, begun, shares, after, drawn, coins_after, opened, opened_by, opens}
 use Rattle.runs.proofs.Dealers.{enough-after, enough_now, figures-below-after, coins_after_lem}
-use Rattle.runs.proofs.Pairs.{secret-coins, shares-same, paired_coins-same, tail_same, Second, second_draw, second_after, draw_whole, paired-length}
+use Rattle.runs.proofs.Pairs.{shares-same, paired_coins-same, tail_same, Second, second_draw, second_after, draw_whole, paired-length}
 use Rattle.runs.specs.Steps.{in_state}
 use Rattle.runs.proofs.Going.{Small, shares-small, rows_small, made-is}
 use Rattle.coupling.specs.Couples.{Coupled}
 use Rattle.coupling.specs.Growing.{Grown}
-use Rattle.coupling.specs.Sides.{Side, Drawable}
+use Rattle.coupling.specs.Sides.{Side}
 use Rattle.coupling.specs.Steps.{Steady, Both}
 use Rattle.coupling.proofs.Abreast.{opened-coins, draw_coins}
 

@@ -12,7 +12,7 @@ use Rattle.sheets.specs.declared.line.Line.TheVariants.{Input, Product}
 use Rattle.runs.specs.Row.{row_of}
 use Rattle.runs.proofs.Inrow.{at_place}
 use Rattle.runs.specs.Pairing.{shifted, paired_draw}
-use Rattle.runs.specs.Run.{State, share, secret, drawn}
+use Rattle.runs.specs.Run.{State, share, secret}
 use Rattle.coupling.specs.Sides.{Side, higher}
 
 -- a list of rows, read at a place

@@ -1,5 +1,5 @@
 -- Both runs of a whole sheet.
-use Rattle.std.specs.Prelude.{◌≡◌, ℕ, ◌≤◌, Bool, T, List, [], length, Ok, Err, vec_items, Result}
+use Rattle.std.specs.Prelude.{◌≡◌, ℕ, Bool, T, List, [], Ok, Err, vec_items, Result}
 use Rattle.shares.specs.Circle.{Circle}
 use Rattle.sheets.specs.Families.{of}
 use Rattle.sheets.specs.Lines.{good}

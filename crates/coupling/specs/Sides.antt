@@ -1,5 +1,5 @@
 -- Two runs side by side: what each holds, and the coins that the second draws for a line.
-use Rattle.std.specs.Prelude.{◌≡◌, ℕ, ◌+◌, ◌<◌, ◌≤◌, Bool, cond, T, List, [], map, length, take, drop, slice_index_or}
+use Rattle.std.specs.Prelude.{◌≡◌, ℕ, ◌+◌, ◌<◌, ◌≤◌, cond, T, List, [], map, length, take, drop, slice_index_or}
 use Rattle.shares.specs.Circle.{Circle}
 use Rattle.sheets.specs.Lines.{good_line, deals}
 use Rattle.sheets.specs.declared.line.Line.{Line}

@@ -1,4 +1,4 @@
-use Rattle.std.proofs.Common.{◌≡◌, ℕ, ◌<◌, ◌≤◌, min, List, [], ◌++◌, length, get_or, vec_items, sym, refl, ap, ◌∙◌, subst, ap₂, arith, Bor, rules}
+use Rattle.std.proofs.Common.{◌≡◌, ℕ, ◌<◌, List, [], ◌++◌, length, get_or, vec_items, refl, ◌∙◌, ap₂, arith, Bor, rules}
 use Rattle.std.proofs.lemmas.List.{map-set, length-map}
 use Rattle.sheets.specs.Families.{family}
 use Rattle.sheets.proofs.Drawn.{at_place}

@@ -1,8 +1,7 @@
-use Rattle.std.proofs.Common.{◌≡◌, ℕ, ◌+◌, ◌-◌, ◌<◌, ◌≤◌, T, List, length, get_or, take, sym, ap, ◌∙◌, subst, arith, rules}
+use Rattle.std.proofs.Common.{◌≡◌, ℕ, ◌+◌, ◌-◌, ◌≤◌, T, List, length, sym, ap, ◌∙◌, subst, arith, rules}
 use Rattle.std.proofs.lemmas.List.{length-take, length-set}
-use Rattle.field.specs.Field.{◌⊕◌, neg, below}
+use Rattle.field.specs.Field.{◌⊕◌, below}
 use Rattle.field.proofs.Below.{below-take}
-use Rattle.sheets.specs.Families.{family, of}
 use Rattle.sheets.specs.Lines.{deals}
 use Rattle.runs.specs.Setups.{circle_in}
 use Rattle.coupling.proofs.Draws.{Draw, counted_few, draw_is, place_more, all_below-set}

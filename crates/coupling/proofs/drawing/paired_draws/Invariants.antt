@@ -1,4 +1,4 @@
-use Rattle.std.proofs.Common.{◌≡◌, ℕ, ◌<◌, T, List, [], length, get_or}
+use Rattle.std.proofs.Common.{◌≡◌, ℕ, ◌<◌, T, [], length, get_or}
 use Rattle.field.specs.Field.{all_below}
 use Rattle.coupling.specs.Sides.{Side}
 use Rattle.runs.specs.Run.{State}

@@ -1,6 +1,4 @@
-use Rattle.std.proofs.Common.{◌≡◌, ℕ, ◌+◌, ◌-◌, ◌<◌, List, [], length, get_or, take, sym, ap, ◌∙◌, subst, arith, rules}
-use Rattle.std.proofs.lemmas.List.{map-set, length-map}
-use Rattle.sheets.specs.Families.{family}
+use Rattle.std.proofs.Common.{rules}
 use Rattle.coupling.proofs.Draws.{lent_more}
 use Rattle.coupling.proofs.lending.lend_draws.Goals as goal
 

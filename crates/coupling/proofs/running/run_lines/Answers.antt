@@ -1,4 +1,4 @@
-use Rattle.std.proofs.Common.{◌≡◌, ℕ, ◌+◌, List, [], length, get_or, drop, vec_items, sym, refl, ap, ◌∙◌, subst, arith, Bor, rules}
+use Rattle.std.proofs.Common.{ℕ, ◌+◌, List, length, get_or, drop, vec_items, sym, refl, ◌∙◌, subst, Bor}
 use Rattle.std.proofs.lemmas.List.{length-map, drop_all}
 use Rattle.sheets.specs.Families.{family, of}
 use Rattle.sheets.specs.declared.line.Line.{Line}

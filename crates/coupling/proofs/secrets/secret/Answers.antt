@@ -1,6 +1,6 @@
-use Rattle.std.proofs.Common.{◌≡◌, ℕ, ◌<◌, T, List, length, get_or, sym, ap, ◌∙◌, subst, lit<, rules}
+use Rattle.std.proofs.Common.{◌≡◌, ℕ, T, List, length, get_or, sym, ap, ◌∙◌, subst, lit<, rules}
 use Rattle.std.proofs.lemmas.List.{nil_from_length}
-use Rattle.field.specs.Field.{p, below}
+use Rattle.field.specs.Field.{below}
 use Rattle.runs.proofs.Dealers.{first_below}
 use Rattle.runs.proofs.Stepped.{good_product}
 use Rattle.sheets.specs.Families.{family, of}

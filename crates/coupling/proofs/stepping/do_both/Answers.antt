@@ -1,4 +1,4 @@
-use Rattle.std.proofs.Common.{◌≡◌, ℕ, ◌≤◌, List, length, vec_items, sym, subst, arith, rules}
+use Rattle.std.proofs.Common.{◌≡◌, ℕ, ◌≤◌, List, length, vec_items, sym, subst, rules}
 use Rattle.std.proofs.lemmas.List.{length-map}
 use Rattle.sheets.specs.Families.{family, of}
 use Rattle.runs.specs.Short.{short_at}
