@@ -77,10 +77,10 @@ fn refusal_of(heap: Global, n: usize, bytes: &[u8]) -> u32 {
 fn inputs_of_two(rt: HostRuntime) -> Result<(), Fail> {
     let inputs = read_circle_inputs(rt.alloc(), 2, &TWO)?;
     assert!(rt; inputs.figures.len() == 2 && inputs.coins.len() == 2);
-    assert_eq!(rt; inputs.figures[0].as_slice(), &[7]);
+    assert_eq!(rt; inputs.figures[0].as_slice(), [7].as_slice());
     assert!(rt; inputs.figures[1].is_empty());
-    assert_eq!(rt; inputs.coins[0].as_slice(), &[5]);
-    assert_eq!(rt; inputs.coins[1].as_slice(), &[9]);
+    assert_eq!(rt; inputs.coins[0].as_slice(), [5].as_slice());
+    assert_eq!(rt; inputs.coins[1].as_slice(), [9].as_slice());
     Ok(())
 }
 
@@ -114,7 +114,7 @@ fn form_before_range(rt: HostRuntime) {
 fn written_words(rt: HostRuntime) -> Result<(), Fail> {
     let mut out = Vec::new(rt.alloc());
     write_words(&[1, 16909060], &mut out)?;
-    assert_eq!(rt; out.as_slice(), &[0, 0, 0, 1, 1, 2, 3, 4]);
+    assert_eq!(rt; out.as_slice(), [0, 0, 0, 1, 1, 2, 3, 4].as_slice());
     Ok(())
 }
 
@@ -123,7 +123,10 @@ fn written_circle(rt: HostRuntime) -> Result<(), Fail> {
     let inputs = read_circle_inputs(rt.alloc(), 2, &TWO)?;
     let mut out = Vec::new(rt.alloc());
     write_circle_figures(&inputs.figures, &mut out)?;
-    assert_eq!(rt; out.as_slice(), &[0, 0, 0, 1, 0, 0, 0, 7, 0, 0, 0, 0]);
+    assert_eq!(rt;
+        out.as_slice(),
+        [0, 0, 0, 1, 0, 0, 0, 7, 0, 0, 0, 0].as_slice()
+    );
     Ok(())
 }
 
@@ -132,6 +135,6 @@ fn lent_lists(rt: HostRuntime) -> Result<(), Fail> {
     let figures = read_circle_figures(rt.alloc(), 1, &[0, 0, 0, 1, 0, 0, 0, 7])?;
     let lent = lend(rt.alloc(), &figures)?;
     assert!(rt; lent.len() == 1);
-    assert_eq!(rt; lent[0], &[7]);
+    assert_eq!(rt; lent[0], [7].as_slice());
     Ok(())
 }

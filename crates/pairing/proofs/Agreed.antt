@@ -1,7 +1,7 @@
 -- What follows where nothing is missing and nothing differs.
-use Rattle.std.proofs.Common.{◌≡◌, ℕ, zero, suc, ◌+◌, ◌<◌, ◌≤◌, Bool, true, false, cond, not, ◌&&◌, T, eqb, ltb, List, [], ◌∷◌, ◌++◌, length, get_or, take, drop, Some, None, Option, sym, refl, ap, ◌∙◌, subst, ap₂, zero-add, arith, eqb→eq}
+use Rattle.std.proofs.Common.{◌≡◌, ℕ, suc, ◌+◌, ◌≤◌, Bool, true, false, cond, not, ◌&&◌, T, eqb, List, [], ◌∷◌, length, get_or, take, drop, Some, None, Option, sym, refl, ap, ◌∙◌, subst, ap₂, zero-add, arith, eqb→eq}
 use Rattle.std.proofs.lemmas.List.{length-append}
-use Rattle.std.proofs.lemmas.Bool.{and_parts, eqb-true, ltb-true, ltb-false}
+use Rattle.std.proofs.lemmas.Bool.{and_parts, eqb-true, ltb-true}
 use Rattle.shares.specs.Circle.{Circle}
 use Rattle.sheets.specs.Lines.{gives, figures_needed}
 use Rattle.sheets.specs.Meaning.{Plain, plain_opened, plain_after, plain_run, result, figures_after, has_figure}
@@ -13,7 +13,7 @@ use Rattle.runs.specs.Laws.{Agree}
 use Rattle.runs.specs.Run.{coins_after}
 use Rattle.runs.specs.Short.{short_at, or_else, runs_out}
 use Rattle.runs.proofs.Dealers.{enough-after, enough_now}
-use Rattle.runs.proofs.Enough.{Has, has-from, short-from, else_parts}
+use Rattle.runs.proofs.Enough.{has-from, short-from, else_parts}
 use Rattle.pairing.specs.Differing.{differ, Place, given_differs, taken_after, or_later, figure_differs}
 use Rattle.pairing.specs.Lacking.{short_in_either, runs_out_in_either}
 

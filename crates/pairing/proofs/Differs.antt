@@ -5,7 +5,7 @@ use Rattle.std.proofs.lemmas.List.{drop_more, drop_all, at_drop_more, at_drop_al
 use Rattle.std.proofs.lemmas.Bool.{eq-eqb, ne_eqb, cases_eq, cases_lt, cond-true, cond-false}
 use Rattle.field.proofs.Below.{both_parts}
 use Rattle.sheets.specs.Drawing.{after}
-use Rattle.sheets.specs.Lines.{made, good, good_line, gives}
+use Rattle.sheets.specs.Lines.{made, good, good_line}
 use Rattle.sheets.specs.Meaning.{figures_after}
 use Rattle.sheets.specs.declared.line.Line.{Line}
 use Rattle.sheets.specs.declared.line.Line.TheVariants.{Input, Sum, Times, Product, Open}

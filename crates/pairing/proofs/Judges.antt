@@ -1,5 +1,5 @@
 -- What is judged before the runs.
-use Rattle.std.proofs.Common.{◌≡◌, ℕ, Bool, true, false, cond, ◌&&◌, List, Some, Option, sym, refl, ap, ◌∙◌, ap₂, Bor}
+use Rattle.std.proofs.Common.{◌≡◌, ℕ, Bool, true, ◌&&◌, List, Some, Option, sym, ◌∙◌, ap₂, Bor}
 use Rattle.std.proofs.lemmas.Bool.{cond-true}
 use Rattle.field.specs.Field.{all_below}
 use Rattle.shares.specs.Circle.{Circle}

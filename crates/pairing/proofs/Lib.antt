@@ -1,6 +1,5 @@
 pub mod Agreed
 pub mod Differs
-pub mod Judged
 pub mod Judges
 pub mod Served
 pub mod Sets

@@ -1,5 +1,5 @@
 -- The answers: each case with what stands before it.
-use Rattle.std.proofs.Common.{◌≡◌, ℕ, ◌<◌, ◌≤◌, Bool, true, false, cond, ◌&&◌, ◌||◌, T, ltb, ◌⊎◌, List, Some, None, Ok, Err, Option, Result, Vec, sym, refl, ap, ◌∙◌, subst, ap₂, inl, inr, arith}
+use Rattle.std.proofs.Common.{◌≡◌, ℕ, ◌<◌, ◌≤◌, Bool, true, false, cond, ◌&&◌, ◌||◌, T, List, Some, None, Ok, Err, Option, Result, Vec, sym, refl, ap, ◌∙◌, subst, ap₂, inl, arith}
 use mathlib.Core.Path.{fun_ext}
 use Rattle.std.specs.declared.alloc.Global.{Global}
 use Rattle.std.proofs.lemmas.Bool.{and_parts, lt-ltb, le-ltb, cond-true, cond-false}
@@ -15,7 +15,7 @@ use Rattle.sheets.specs.declared.refusal.Refusal.TheVariants.{OutOfRange}
 use Rattle.console.specs.Numbers.{outside}
 use Rattle.coupling.specs.Couples.{Given}
 use Rattle.coupling.specs.Growing.{lists}
-use Rattle.runs.specs.Laws.{Figures, Coins}
+use Rattle.runs.specs.Laws.{Coins}
 use Rattle.runs.specs.Pairing.{there}
 use Rattle.runs.specs.Seen.{how_many, sees}
 use Rattle.runs.proofs.Alike.{alike}

@@ -1,5 +1,5 @@
 -- Figures and coins that run out in either of two runs with as many coins.
-use Rattle.std.specs.Prelude.{◌≡◌, ℕ, Bool, true, false, cond, ◌&&◌, List, [], ◌∷◌, Some, None, Ok, Err, Option, Result}
+use Rattle.std.specs.Prelude.{◌≡◌, ℕ, true, false, cond, ◌&&◌, List, [], ◌∷◌, Some, None, Ok, Err, Option, Result}
 use Rattle.shares.specs.Circle.{Circle, members}
 use Rattle.sheets.specs.Meaning.{figures_after, has_figure}
 use Rattle.sheets.specs.Reading.{any}

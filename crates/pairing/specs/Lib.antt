@@ -1,5 +1,4 @@
 pub mod Answers
 pub mod Differing
 pub mod Lacking
-pub mod Laws
 pub mod Verdict

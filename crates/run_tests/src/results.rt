@@ -21,17 +21,18 @@ fn product(rt: HostRuntime) -> Result<(), Fail> {
     let figures: [&[u32]; 2] = [&[5], &[3]];
     let coins: [&[u32]; 3] = [&[2, 1], &[4, 1], &[1]];
     let all = run(rt.alloc(), &sheet, &figures, &coins, &[true; 15])?;
-    assert_eq!(rt; all.opened.as_slice(), &[15]);
+    assert_eq!(rt; all.opened.as_slice(), [15].as_slice());
     assert_eq!(rt;
         all.seen.as_slice(),
-        &[
+        [
             5, 2, 7, 9, 11, 3, 4, 7, 11, 15, 1, 1, 1, 50, 51, 52, 100, 101, 102, 166, 167, 168, 16,
             17, 18,
         ]
+        .as_slice()
     );
     let nobody = run(rt.alloc(), &sheet, &figures, &coins, &[false; 15])?;
-    assert_eq!(rt; nobody.opened.as_slice(), &[15]);
-    assert_eq!(rt; nobody.seen.as_slice(), &[16, 17, 18]);
+    assert_eq!(rt; nobody.opened.as_slice(), [15].as_slice());
+    assert_eq!(rt; nobody.seen.as_slice(), [16, 17, 18].as_slice());
     Ok(())
 }
 
@@ -53,8 +54,8 @@ fn alone(rt: HostRuntime) -> Result<(), Fail> {
     )?;
     let figures: [&[u32]; 1] = [&[4, 9]];
     let got = run(rt.alloc(), &sheet, &figures, &[], &[true; 15])?;
-    assert_eq!(rt; got.opened.as_slice(), &[192]);
-    assert_eq!(rt; got.seen.as_slice(), &[4, 4, 192, 192]);
+    assert_eq!(rt; got.opened.as_slice(), [192].as_slice());
+    assert_eq!(rt; got.seen.as_slice(), [4, 4, 192, 192].as_slice());
     Ok(())
 }
 
@@ -105,7 +106,7 @@ fn product_of_a_product(rt: HostRuntime) -> Result<(), Fail> {
             false, false, false,
         ],
     )?;
-    assert_eq!(rt; got.opened.as_slice(), &[25]);
+    assert_eq!(rt; got.opened.as_slice(), [25].as_slice());
     assert_eq!(rt; got.seen.len(), 61);
     Ok(())
 }

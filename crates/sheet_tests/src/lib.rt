@@ -129,14 +129,14 @@ mod tests {
         let sheet = Sheet::read(heap, &SMALL)?;
         let mut bytes = Vec::new(heap);
         sheet.write(&mut bytes)?;
-        assert!(rt; bytes.as_slice() == &SMALL);
+        assert!(rt; bytes.as_slice() == SMALL.as_slice());
         assert_eq!(rt; sheet.members(), 3);
         assert_eq!(rt; sheet.threshold(), 1);
         assert_eq!(rt; sheet.figures_needed(1), 1);
         assert_eq!(rt; sheet.figures_needed(2), 0);
         assert_eq!(rt; sheet.coins_needed(1), 2);
         assert_eq!(rt; sheet.coins_needed(3), 1);
-        assert!(rt; sheet.result(heap, &[&[9]])?.as_slice() == &[81]);
+        assert!(rt; sheet.result(heap, &[&[9]])?.as_slice() == [81].as_slice());
         assert_eq!(rt;
             sheet.result(heap, &[&[], &[9]]).err(),
             Some(Refusal::NoFigure)

@@ -1,4 +1,4 @@
-use Rattle.std.proofs.Common.{◌≡◌, ℕ, ◌<◌, ◌≤◌, Bool, vec_items, sym, ap, ◌∙◌, subst, inl, inr, ⊎_elim, arith}
+use Rattle.std.proofs.Common.{◌≡◌, ℕ, ◌<◌, ◌≤◌, Bool, vec_items, ap, ◌∙◌, subst, inl, inr, ⊎_elim, arith}
 use Rattle.runs.specs.Pairing.{there}
 use Rattle.runs.specs.Seen.{how_many}
 use Rattle.sheets.specs.Families.{family, of}

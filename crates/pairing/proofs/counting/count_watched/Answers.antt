@@ -1,4 +1,4 @@
-use Rattle.std.proofs.Common.{ℕ, ◌+◌, ◌≤◌, ap, ◌∙◌, arith}
+use Rattle.std.proofs.Common.{ap, ◌∙◌, arith}
 use Rattle.runs.specs.Seen.{how_many}
 use Rattle.runs.specs.Watching.{watches}
 use Rattle.pairing.proofs.Sets.{none_yet, one_more, no_more}

@@ -1,4 +1,4 @@
-use Rattle.std.proofs.Common.{◌≡◌, ◌<◌, length, sym, ap, ◌∙◌, arith, rules}
+use Rattle.std.proofs.Common.{rules}
 use Rattle.pairing.proofs.Differs.{differ_same, differ_here, differ_none}
 use Rattle.pairing.proofs.differing.first_difference.Goals as goal
 

@@ -1,4 +1,4 @@
-use Rattle.std.proofs.Common.{ℕ, ◌+◌, ◌-◌, ◌<◌, ◌≤◌, List, get_or, set, refl, ap, arith, Bor}
+use Rattle.std.proofs.Common.{ℕ, ◌+◌, ◌-◌, List, get_or, set, refl, ap, arith, Bor}
 use Rattle.sheets.specs.Families.{family, of}
 use Rattle.sheets.specs.declared.line.Line.TheVariants.{Input}
 use Rattle.pairing.proofs.Differs.{compared_none, input_member, found, not-here, passed, compared_as, compared_all}

@@ -1,5 +1,5 @@
 use Rattle.std.proofs.Common.{◌≡◌, ℕ, List, [], length, get_or, sym, ap, ◌∙◌, arith}
-use Rattle.std.proofs.lemmas.List.{get_or-take, nil_from_length}
+use Rattle.std.proofs.lemmas.List.{nil_from_length}
 use Rattle.sheets.specs.Families.{family, of}
 use Rattle.pairing.proofs.Differs.{first_taken, after_empty}
 use Rattle.pairing.proofs.differing.next.Goals as goal

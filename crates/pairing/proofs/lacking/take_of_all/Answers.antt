@@ -1,4 +1,4 @@
-use Rattle.std.proofs.Common.{◌+◌, refl}
+use Rattle.std.proofs.Common.{refl}
 use Rattle.sheets.specs.Families.{family, of}
 use Rattle.pairing.proofs.Taking.{dealt_none, dealt_more, dealt-short, dealt_all}
 use Rattle.pairing.proofs.lacking.take_of_all.Goals as goal

@@ -1,5 +1,3 @@
-use Rattle.std.proofs.Common.{◌≡◌}
-use Rattle.shares.specs.Circle.{members}
 use Rattle.sheets.specs.Families.{family, of}
 use Rattle.pairing.proofs.Taking.{Dealt}
 use Rattle.pairing.proofs.lacking.take_of_all.Given as goal
