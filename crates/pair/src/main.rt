@@ -3,7 +3,7 @@
 
 use console::Failure;
 use pairing::Pairing;
-use sheets::Sheet;
+use sheets::{Refusal, Sheet};
 use std::io::{BufWriter, Write};
 
 const USAGE: &str = "usage: pair SHEET FIRST SECOND [WATCHED ..]";
@@ -48,7 +48,9 @@ fn print(rt: &HostRuntime, sheet: &Sheet, answer: &Pairing) -> Result<(), Failur
 
 // Member by member, as many coins as each draws, one number to a line.
 fn print_coins(rt: &HostRuntime, sheet: &Sheet, lists: &[Vec<u32>]) -> Result<(), Failure> {
-    let mut out = BufWriter::new(rt.stdout());
+    let Ok(mut out) = BufWriter::new(rt.alloc(), rt.stdout()) else {
+        return Err(Failure::Refused(Refusal::NoMemory));
+    };
     let mut member = 0u32;
     for list in lists {
         member = member.saturating_add(1);
