@@ -5,6 +5,7 @@ use console::Failure;
 use runs::Outcome;
 use sheets::{Refusal, Sheet};
 use std::io::{BufWriter, Write};
+use std::process::ExitCode;
 
 const USAGE: &str = "usage: circle SHEET INPUTS ORDER [WATCHED ..]";
 
@@ -60,12 +61,12 @@ fn run(rt: &HostRuntime) -> Result<(), Failure> {
     play(rt, &words)
 }
 
-fn main(rt: HostRuntime) -> Result<(), ()> {
+fn main(rt: HostRuntime) -> ExitCode {
     match run(&rt) {
-        Ok(()) => Ok(()),
+        Ok(()) => ExitCode::SUCCESS,
         Err(failure) => {
             let _ = rt.eprintln(&failure);
-            Err(())
+            ExitCode::FAILURE
         }
     }
 }

@@ -5,6 +5,7 @@ use console::Failure;
 use pairing::Pairing;
 use sheets::{Refusal, Sheet};
 use std::io::{BufWriter, Write};
+use std::process::ExitCode;
 
 const USAGE: &str = "usage: pair SHEET FIRST SECOND [WATCHED ..]";
 
@@ -71,12 +72,12 @@ fn run(rt: &HostRuntime) -> Result<(), Failure> {
     play(rt, &words)
 }
 
-fn main(rt: HostRuntime) -> Result<(), ()> {
+fn main(rt: HostRuntime) -> ExitCode {
     match run(&rt) {
-        Ok(()) => Ok(()),
+        Ok(()) => ExitCode::SUCCESS,
         Err(failure) => {
             let _ = rt.eprintln(&failure);
-            Err(())
+            ExitCode::FAILURE
         }
     }
 }
