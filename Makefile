@@ -2,17 +2,16 @@
 
 TEXTS = examples/bakeries.txt examples/bakeries-otherwise.txt
 EXAMPLE = target/example
-PROGRAMS = $(notdir $(wildcard crates/circle crates/pair))
 
 # Proves the programs, which is quick once it is done, and plays the example of the bakeries.
 demo: tools-needed
 	@mkdir -p target
-	@rt check $(PROGRAMS) > target/demo.log 2>&1 || { cat target/demo.log; exit 1; }
+	@tools/programs > target/demo.log 2>&1 || { cat target/demo.log; exit 1; }
 	@tools/example $(TEXTS) $(EXAMPLE)
 	@tools/demo $(TEXTS) $(EXAMPLE)
 
-# The gate: every crate proved from nothing, every must-fail edit refused, every program and test run, and then the
-# programs played against the model.
+# The gate: every crate proved, every must-fail edit refused, every program and test run, and then the programs played
+# against the model.
 test:
 	@tools/gate
 
