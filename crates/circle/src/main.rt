@@ -36,9 +36,8 @@ fn play(rt: &HostRuntime, words: &[String]) -> Result<(), Failure> {
 
 // What was opened, one number to a line; where members are watched, an empty line and what they see.
 fn print(rt: &HostRuntime, outcome: &Outcome, watched: bool) -> Result<(), Failure> {
-    let Ok(mut out) = BufWriter::new(rt.alloc(), rt.stdout()) else {
-        return Err(Failure::Refused(Refusal::NoMemory));
-    };
+    let out = BufWriter::new(rt.alloc(), rt.stdout());
+    let mut out = out.map_err(|_| Failure::Refused(Refusal::NoMemory))?;
     for number in outcome.opened.as_slice() {
         writeln!(out, "{number}")?;
     }

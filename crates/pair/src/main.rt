@@ -49,9 +49,8 @@ fn print(rt: &HostRuntime, sheet: &Sheet, answer: &Pairing) -> Result<(), Failur
 
 // Member by member, as many coins as each draws, one number to a line.
 fn print_coins(rt: &HostRuntime, sheet: &Sheet, lists: &[Vec<u32>]) -> Result<(), Failure> {
-    let Ok(mut out) = BufWriter::new(rt.alloc(), rt.stdout()) else {
-        return Err(Failure::Refused(Refusal::NoMemory));
-    };
+    let out = BufWriter::new(rt.alloc(), rt.stdout());
+    let mut out = out.map_err(|_| Failure::Refused(Refusal::NoMemory))?;
     let mut member = 0u32;
     for list in lists {
         member = member.saturating_add(1);

@@ -10,7 +10,7 @@ use Rattle.runs.specs.Run.{State, begun, share, drawn, sent, after}
 use Rattle.runs.specs.Seen.{watched_in, dealers, own_figure, own_coins, received, shown, seen_at, seen_by}
 use Rattle.runs.specs.Laws.{Coins, Fewer}
 use Rattle.runs.proofs.Dealers.{each_dealer, coins_after_lem, drawn-length}
-use Rattle.runs.proofs.Lists.{both_appended, map_same, map_parts, concat-same, split_append, split_concat, of_kept, to_kept}
+use Rattle.runs.proofs.Lists.{both_appended, map_same, map_parts, flat_map-same, split_append, split_flat_map, of_kept, to_kept}
 
 length_part : (b : Bool) (xs ys : List ℕ) → length xs ≡ length ys → length (cond b xs []) ≡ length (cond b ys [])
 length_part true xs ys e = e
@@ -64,14 +64,14 @@ module _ (c d : ℕ → Bool) (within : (i : ℕ) → T (c i) → T (d i)) where
         let received-lengths = each_dealer (λ i. length (R d s i) ≡ length (R d s' i)) z l λ i t.
         length_maps (sent z l s i) (sent z l s' i) (watched_in z d) in
         let one = split_append (own_figure d l s) (own_figure d l s') (own_coins z d l s ++ (received z d l s ++ (shown z l s ++ r))) (own_coins z d l s' ++ (received z d l s' ++ (shown z l s' ++ r'))) (figure-length d l s s') (simp append_assoc at e) in
-        let two = split_concat (C d s) (C d s') (dealers z l) (received z d l s ++ (shown z l s ++ r)) (received z d l s' ++ (shown z l s' ++ r')) coins-lengths one.1 in
-        let three = split_concat (R d s) (R d s') (dealers z l) (shown z l s ++ r) (shown z l s' ++ r') received-lengths two.1 in
+        let two = split_flat_map (C d s) (C d s') (dealers z l) (received z d l s ++ (shown z l s ++ r)) (received z d l s' ++ (shown z l s' ++ r')) coins-lengths one.1 in
+        let three = split_flat_map (R d s) (R d s') (dealers z l) (shown z l s ++ r) (shown z l s' ++ r') received-lengths two.1 in
         let four = split_append (shown z l s) (shown z l s') r r' (shown-length z l s s') three.1 in
         let own = All-weaker (λ i. C d s i ≡ C d s' i) (λ i. C c s i ≡ C c s' i) (λ i. fewer_part (c i) (d i) (drawn z s i) (drawn z s' i) (within i)) (dealers z l) two.0 in
         let others = All-weaker (λ i. R d s i ≡ R d s' i) (λ i. R c s i ≡ R c s' i) (λ i. map_fewer (sent z l s i) (sent z l s' i) (members z.n)) (dealers z l) three.0 in (
           both_appended (figure_fewer l s s' one.0)
-              (both_appended (concat-same (C c s) (C c s') (dealers z l) own)
-              (both_appended (concat-same (R c s) (R c s') (dealers z l) others) four.0)),
+              (both_appended (flat_map-same (C c s) (C c s') (dealers z l) own)
+              (both_appended (flat_map-same (R c s) (R c s') (dealers z l) others) four.0)),
           four.1,
         )
 

@@ -10,9 +10,9 @@ pub map_same : {A B : Type 0} (f g : A → B) (xs : List A) → All (λ x. f x �
 map_same f g [] h = refl
 map_same {B = B} f g (x ∷ xs) h = ap₂ (λ (y : B) (ys : List B). y ∷ ys) h.0 (map_same f g xs h.1)
 
-pub concat-same : {A B : Type 0} (f g : A → List B) (xs : List A) → All (λ x. f x ≡ g x) xs → flat_map f xs ≡ flat_map g xs
-concat-same f g [] h = refl
-concat-same f g (x ∷ xs) h = both_appended h.0 (concat-same f g xs h.1)
+pub flat_map-same : {A B : Type 0} (f g : A → List B) (xs : List A) → All (λ x. f x ≡ g x) xs → flat_map f xs ≡ flat_map g xs
+flat_map-same f g [] h = refl
+flat_map-same f g (x ∷ xs) h = both_appended h.0 (flat_map-same f g xs h.1)
 
 pub split_append : {A : Type 0} (xs xs' ys ys' : List A) → length xs ≡ length xs' → xs ++ ys ≡ xs' ++ ys' → (xs ≡ xs') × (ys ≡ ys')
 split_append xs xs' ys ys' len e = (
@@ -24,11 +24,11 @@ pub map_parts : {A B : Type 0} (f g : A → B) (xs : List A) → map f xs ≡ ma
 map_parts f g [] e = tt
 map_parts f g (x ∷ xs) e = (cc, map_parts f g xs (cc))
 
-pub split_concat : {A B : Type 0} (f g : A → List B) (xs : List A) (ys ys' : List B) → All (λ x. length (f x) ≡ length (g x)) xs → flat_map f xs ++ ys ≡ flat_map g xs ++ ys' → All (λ x. f x ≡ g x) xs × (ys ≡ ys')
-split_concat f g [] ys ys' h e = (tt, e)
-split_concat f g (x ∷ xs) ys ys' h e =
+pub split_flat_map : {A B : Type 0} (f g : A → List B) (xs : List A) (ys ys' : List B) → All (λ x. length (f x) ≡ length (g x)) xs → flat_map f xs ++ ys ≡ flat_map g xs ++ ys' → All (λ x. f x ≡ g x) xs × (ys ≡ ys')
+split_flat_map f g [] ys ys' h e = (tt, e)
+split_flat_map f g (x ∷ xs) ys ys' h e =
     let first = split_append (f x) (g x) (flat_map f xs ++ ys) (flat_map g xs ++ ys') h.0 (simp append_assoc at e) in
-    let rest = split_concat f g xs ys ys' h.1 first.1 in
+    let rest = split_flat_map f g xs ys ys' h.1 first.1 in
     ((first.0, rest.0), rest.1)
 
 -- what holds of those that pass a test

@@ -20,7 +20,7 @@ use Rattle.runs.specs.Pairing.{shifted, paired_draw, mask_for}
 use Rattle.runs.specs.Laws.{Coins, Agree}
 use Rattle.runs.proofs.Apart.{Apart, SentApart, both_apart, apart_at, sent-differs, made_apart}
 use Rattle.runs.proofs.Dealers.{Below, agree_now, agree_after, at_member, each_dealer, figures-below-after, coins_after_lem}
-use Rattle.runs.proofs.Lists.{both_appended, map_same, concat-same, split_append, of_kept}
+use Rattle.runs.proofs.Lists.{both_appended, map_same, flat_map-same, split_append, of_kept}
 use Rattle.runs.proofs.Masks.{whole, length-mask_for, watched-zero}
 use Rattle.runs.proofs.Pairs.{Second, second_draw, second_after}
 use Rattle.runs.proofs.Rightly.{Rows, both_rows, row_at, plain_of, values_after, made_rows}
@@ -114,7 +114,7 @@ module _ (z : Circle) (fits : Fits z) (c : ℕ → Bool) (few : how_many c z.n �
       coins-same : own_coins z c l s ≡ own_coins z c l s'
       coins-same =
           let own : State → ℕ → List ℕ = λ r i. cond (c i) (drawn z r i) [] in
-          concat-same (own s) (own s') (dealers z l) (each_dealer (λ i. own s i ≡ own s' i) z l λ i d. watched_part (c i) (drawn z s i) (drawn z s' i) (draw-same i d))
+          flat_map-same (own s) (own s') (dealers z l) (each_dealer (λ i. own s i ≡ own s' i) z l λ i d. watched_part (c i) (drawn z s i) (drawn z s' i) (draw-same i d))
 
       sent-same : (i : ℕ) → T (deals z l i) → (j : ℕ) → value (whole z c) j ≡ 0 → sent z l s i j ≡ sent z l s' i j
       sent-same i d j o =
@@ -124,7 +124,7 @@ module _ (z : Circle) (fits : Fits z) (c : ℕ → Bool) (few : how_many c z.n �
       received-same : received z c l s ≡ received z c l s'
       received-same =
           let came : State → ℕ → List ℕ = λ r i. map (sent z l r i) (watched_in z c) in
-          concat-same (came s) (came s') (dealers z l) (each_dealer (λ i. came s i ≡ came s' i) z l λ i d.
+          flat_map-same (came s) (came s') (dealers z l) (each_dealer (λ i. came s i ≡ came s' i) z l λ i d.
           map_same (sent z l s i) (sent z l s' i) (watched_in z c)
           (All-weaker (λ j. value (whole z c) j ≡ 0) (λ j. sent z l s i j ≡ sent z l s' i j) (sent-same i d) (watched_in z c) (watched-zero z fits c few)))
 

@@ -1,5 +1,5 @@
 -- Figures and coins that run out: at which line, and which of the two.
-use Rattle.std.specs.Prelude.{ℕ, cond, ltb, List, [], ◌∷◌, length, Some, None, Option, ◌==◌, nat_lt}
+use Rattle.std.specs.Prelude.{ℕ, cond, List, [], ◌∷◌, length, Some, None, Option, ◌==◌, nat_lt}
 use Rattle.shares.specs.Circle.{Circle, members}
 use Rattle.sheets.specs.Meaning.{figures_after}
 use Rattle.sheets.specs.Reading.{any}
@@ -15,7 +15,7 @@ short_at z (Input w) figures coins =
     cond (length (figures w) == 0) (Some NoFigure) (cond (nat_lt (length (coins w)) z.t) (Some NoCoins) None)
 short_at z (Sum a e) figures coins = None
 short_at z (Times k a) figures coins = None
-short_at z (Product a e) figures coins = cond (any (λ i. ltb (length (coins i)) z.t) (members z.n)) (Some NoCoins) None
+short_at z (Product a e) figures coins = cond (any (λ i. nat_lt (length (coins i)) z.t) (members z.n)) (Some NoCoins) None
 short_at z (Open a) figures coins = None
 
 abbrev pub or_else : Option Refusal → Option Refusal → Option Refusal
