@@ -2,7 +2,7 @@
 use Rattle.std.proofs.Common.{◌≡◌, ℕ, ◌+◌, ◌-◌, ◌<◌, ◌≤◌, min, Bool, true, false, ◌||◌, eqb, ltb, List, length, get_or, drop, set, sym, refl, ap, ◌∙◌, ⊎_elim, arith}
 use Rattle.std.proofs.lemmas.List.{at_drop_more, get_or-set_same, get_or-set_other}
 use Rattle.std.proofs.lemmas.Bool.{cases_eq, eq-eqb, ne_eqb, eqb-false, ltb-false, or_parts}
-use Rattle.sheets.specs.Reading.{any}
+use Rattle.std.specs.List.{list_any}
 use Rattle.console.specs.Numbers.{outside}
 
 pub inside : (n number : ℕ) → false ≡ outside n number → (0 < number) × (number ≤ 15)
@@ -18,11 +18,11 @@ true_or false b = refl
 
 -- one number more in the set, one fewer to come
 pub set_more : (flags : List Bool) (numbers : List ℕ) (i number k : ℕ) → length flags ≡ 15 → k < 15 → 0 < number → number ≤ 15 → i < length numbers → number ≡ get_or numbers i 0 →
-    (get_or (set flags (number - 1) true) k false || any (λ x. eqb x (k + 1)) (drop (i + 1) numbers)) ≡ (get_or flags k false || any (λ x. eqb x (k + 1)) (drop i numbers))
+    (get_or (set flags (number - 1) true) k false || list_any (λ x. eqb x (k + 1)) (drop (i + 1) numbers)) ≡ (get_or flags k false || list_any (λ x. eqb x (k + 1)) (drop i numbers))
 set_more flags numbers i number k len lt pos le in' is =
-    let rest : Bool = any (λ x. eqb x (k + 1)) (drop (i + 1) numbers) in
-    let step : any (λ x. eqb x (k + 1)) (drop i numbers) ≡ eqb number (k + 1) || rest =
-    at_drop_more (any (λ x. eqb x (k + 1))) numbers i 0 in' ∙ ap (λ (x : ℕ). eqb x (k + 1) || rest) (sym is) in
+    let rest : Bool = list_any (λ x. eqb x (k + 1)) (drop (i + 1) numbers) in
+    let step : list_any (λ x. eqb x (k + 1)) (drop i numbers) ≡ eqb number (k + 1) || rest =
+    at_drop_more (list_any (λ x. eqb x (k + 1))) numbers i 0 in' ∙ ap (λ (x : ℕ). eqb x (k + 1) || rest) (sym is) in
     ⊎_elim
     (λ same.
     ap (λ (j : ℕ). get_or (set flags (number - 1) true) j false || rest) same

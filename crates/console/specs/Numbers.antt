@@ -1,6 +1,6 @@
 -- Members' numbers as they are written on the command line.
 use Rattle.std.specs.Prelude.{◌≡◌, ℕ, ◌+◌, ◌-◌, ◌*◌, ◌<◌, min, Bool, true, false, cond, ◌&&◌, ◌||◌, List, [], ◌∷◌, ◌++◌, length, Some, None, Ok, Err, vec_items, Option, Result, Vec, ◌==◌, nat_eq, nat_le, nat_lt, slice_index_or}
-use Rattle.sheets.specs.Reading.{any}
+use Rattle.std.specs.List.{list_any}
 use Rattle.sheets.specs.declared.refusal.Refusal.TheVariants.{NoMemory}
 use Rattle.console.specs.declared.failure.Failure.{Failure}
 use Rattle.console.specs.declared.failure.Failure.TheVariants.{Refused}
@@ -44,5 +44,5 @@ outside n number = number == 0 || nat_lt (min n 15) number
 
 -- the set of some members: at place k whether member k + 1 is among them
 abbrev pub SetOf : ℕ → List ℕ → Option (List Bool) → Type 0
-SetOf n numbers None = any (outside n) numbers ≡ true
-SetOf n numbers (Some set) = (any (outside n) numbers ≡ false) × (length set ≡ 15) × ((k : ℕ) → k < 15 → slice_index_or set k false ≡ any (λ number. nat_eq number (k + 1)) numbers)
+SetOf n numbers None = list_any (outside n) numbers ≡ true
+SetOf n numbers (Some set) = (list_any (outside n) numbers ≡ false) × (length set ≡ 15) × ((k : ℕ) → k < 15 → slice_index_or set k false ≡ list_any (λ number. nat_eq number (k + 1)) numbers)

@@ -1,5 +1,6 @@
 -- Arithmetic modulo the prime p. The operations take any numbers and give numbers below p.
-use Rattle.std.specs.Prelude.{ℕ, ◌+◌, ◌-◌, ◌*◌, ◌%◌, Bool, true, ◌&&◌, List, [], ◌∷◌, nat_lt, slice_index}
+use Rattle.std.specs.Prelude.{ℕ, ◌+◌, ◌-◌, ◌*◌, ◌%◌, Bool, List, [], ◌∷◌, nat_lt, slice_index}
+use Rattle.std.specs.List.{list_all}
 
 infixl 65 ◌⊕◌
 infixl 70 ◌⊗◌
@@ -17,13 +18,11 @@ neg a = (p - a % p) % p
 
 -- every number of a list is below p
 abbrev pub below : List ℕ → Bool
-below [] = true
-below (x ∷ xs) = nat_lt x p && below xs
+below = list_all (λ x. nat_lt x p)
 
 -- every number of every list
 abbrev pub all_below : List (List ℕ) → Bool
-all_below [] = true
-all_below (xs ∷ xss) = below xs && all_below xss
+all_below = list_all below
 
 -- 1/1, 1/2, .., 1/15
 abbrev pub inverses : List ℕ

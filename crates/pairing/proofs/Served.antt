@@ -8,7 +8,7 @@ use Rattle.shares.specs.Circle.{Circle, Fits}
 use Rattle.sheets.specs.Families.{of}
 use Rattle.sheets.specs.Lines.{good}
 use Rattle.sheets.specs.Meaning.{result}
-use Rattle.sheets.specs.Reading.{any}
+use Rattle.std.specs.List.{list_any}
 use Rattle.sheets.specs.declared.line.Line.{Line}
 use Rattle.sheets.specs.declared.refusal.Refusal.{Refusal}
 use Rattle.sheets.specs.declared.refusal.Refusal.TheVariants.{OutOfRange}
@@ -49,14 +49,14 @@ module _ (z : Circle) (ls : List Line) (watched : List ℕ) (C F F' : List (List
   abbrev rest : Verdict
   rest = first_of (refusal z ls C F F') differs found
 
-  pub crowded : (count : ℕ) → any (outside z.n) watched ≡ false → count ≡ how_many c z.n → z.t < count → the ≡ Unpaired
+  pub crowded : (count : ℕ) → list_any (outside z.n) watched ≡ false → count ≡ how_many c z.n → z.t < count → the ≡ Unpaired
   crowded count in_circle is many =
       let test : unpairable z watched ≡ true =
       ap₂ (λ (a b : Bool). a || b) in_circle (lt-ltb z.t (how_many c z.n) (subst (λ (k : ℕ). z.t < k) is many)) in
       cond-true (unpairable z watched) Unpaired rest test
 
   -- the watched are few, and members
-  module _ (in_circle : any (outside z.n) watched ≡ false) (few : how_many c z.n ≤ z.t) where
+  module _ (in_circle : list_any (outside z.n) watched ≡ false) (few : how_many c z.n ≤ z.t) where
     pairable : the ≡ rest
     pairable =
         let test : unpairable z watched ≡ false = ap₂ (λ (a b : Bool). a || b) in_circle (le-ltb z.t (how_many c z.n) few) in
@@ -118,7 +118,7 @@ serve z fits ls c C F F' paired few g same none is =
 
 -- the conclusion, with what was found before it
 pub concluded : (z : Circle) → Fits z → (ls : List Line) (watched : List ℕ) (C F F' : List (List ℕ)) (coins : Vec (Vec ℕ Global) Global) (r : Result Pairing Refusal) → T (good z.n 0 ls) →
-    any (outside z.n) watched ≡ false → how_many (among watched) z.n ≤ z.t → refusal z ls C F F' ≡ None →
+    list_any (outside z.n) watched ≡ false → how_many (among watched) z.n ≤ z.t → refusal z ls C F F' ≡ None →
     (xs ys : List ℕ) → xs ≡ result ls (of F) → ys ≡ result ls (of F') → None ≡ differ 0 xs ys → of (lists coins) ≡ there z (among watched) ls (of F) (of F') (of C) →
     ConcludedAs (figure_differs (among watched) ls (λ i. 0) (of F) (of F')) coins r → PairedAs z ls watched C F F' r
 concluded z fits ls watched C F F' coins (Ok (PairedCoins paired)) well in_circle few none xs ys ex ey same is h =

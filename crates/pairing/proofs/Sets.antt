@@ -3,7 +3,7 @@ use Rattle.std.proofs.Common.{◌≡◌, ℕ, zero, suc, ◌+◌, ◌<◌, ◌�
 use mathlib.Core.Path.{fun_ext}
 use Rattle.std.proofs.lemmas.List.{get_or_past}
 use Rattle.std.proofs.lemmas.Bool.{or_parts, eqb-false, ltb-false, ne_eqb, cases_lt}
-use Rattle.sheets.specs.Reading.{any}
+use Rattle.std.specs.List.{list_any}
 use Rattle.console.specs.Numbers.{outside, SetOf}
 use Rattle.runs.specs.Seen.{how_many}
 use Rattle.runs.specs.Watching.{watches}
@@ -30,10 +30,10 @@ no_more flags i n m e is h =
     omega (arith, how_many_lem (watches flags) i, none)
 
 -- a number that is nobody's is not among members
-not_among : (n i : ℕ) (watched : List ℕ) → any (outside n) watched ≡ false → ((x : ℕ) → outside n x ≡ false → x ≡ i → ⊥) → any (λ number. eqb number i) watched ≡ false
+not_among : (n i : ℕ) (watched : List ℕ) → list_any (outside n) watched ≡ false → ((x : ℕ) → outside n x ≡ false → x ≡ i → ⊥) → list_any (λ number. eqb number i) watched ≡ false
 not_among n i [] e h = refl
 not_among n i (x ∷ watched) e h =
-    let parts = or_parts (outside n x) (any (outside n) watched) e in
+    let parts = or_parts (outside n x) (list_any (outside n) watched) e in
     ap₂ (λ (a b : Bool). a || b) (ne_eqb x i (h x parts.0)) (not_among n i watched parts.1 h)
 
 zero-outside : (n x : ℕ) → outside n x ≡ false → x ≡ 0 → ⊥
@@ -43,20 +43,20 @@ large_outside : (n x i : ℕ) → 15 < i → outside n x ≡ false → x ≡ i �
 large_outside n x i lt e is =
     let low : x ≤ min n 15 = ltb-false (min n 15) x (or_parts (eqb x 0) (ltb (min n 15) x) e).1 in omega (arith, is)
 
-same_at : (n : ℕ) (watched : List ℕ) (set : List Bool) → any (outside n) watched ≡ false → length set ≡ 15 → ((k : ℕ) → k < 15 → get_or set k false ≡ any (λ number. eqb number (k + 1)) watched) → (i : ℕ) → watches set i ≡ among watched i
+same_at : (n : ℕ) (watched : List ℕ) (set : List Bool) → list_any (outside n) watched ≡ false → length set ≡ 15 → ((k : ℕ) → k < 15 → get_or set k false ≡ list_any (λ number. eqb number (k + 1)) watched) → (i : ℕ) → watches set i ≡ among watched i
 same_at n watched set e len each zero = sym (not_among n 0 watched e (zero-outside n))
 same_at n watched set e len each (suc k) =
     ⊎_elim
-    (λ lt. each k lt ∙ ap (λ (i : ℕ). any (λ number. eqb number i) watched) (add-one k))
+    (λ lt. each k lt ∙ ap (λ (i : ℕ). list_any (λ number. eqb number i) watched) (add-one k))
     (λ le. get_or_past set k false (omega arith) ∙ sym (not_among n (suc k) watched e (λ x. large_outside n x (suc k) (omega arith))))
     (cases_lt k 15)
 
-pub same_set : (n : ℕ) (watched : List ℕ) (set : List Bool) → any (outside n) watched ≡ false → length set ≡ 15 → ((k : ℕ) → k < 15 → get_or set k false ≡ any (λ number. eqb number (k + 1)) watched) → watches set ≡ among watched
+pub same_set : (n : ℕ) (watched : List ℕ) (set : List Bool) → list_any (outside n) watched ≡ false → length set ≡ 15 → ((k : ℕ) → k < 15 → get_or set k false ≡ list_any (λ number. eqb number (k + 1)) watched) → watches set ≡ among watched
 same_set n watched set e len each = fun_ext (same_at n watched set e len each)
 
 -- what is known of the watched once their set is made and counted
 pub record Counted (n : ℕ) (watched : List ℕ) (set : List Bool) (count : ℕ) : Type 0 where
-  pub in_circle : any (outside n) watched ≡ false
+  pub in_circle : list_any (outside n) watched ≡ false
   pub is : watches set ≡ among watched
   pub counts : count ≡ how_many (among watched) n
 

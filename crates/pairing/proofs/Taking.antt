@@ -5,7 +5,7 @@ use Rattle.std.proofs.lemmas.Bool.{lt-ltb, le-ltb, cond-true, cond-false}
 use Rattle.shares.specs.Circle.{Circle, members}
 use Rattle.sheets.specs.Drawing.{after}
 use Rattle.sheets.specs.Meaning.{figures_after, has_figure}
-use Rattle.sheets.specs.Reading.{any}
+use Rattle.std.specs.List.{list_any}
 use Rattle.sheets.specs.declared.line.Line.{Line}
 use Rattle.sheets.specs.declared.line.Line.TheVariants.{Input, Product}
 use Rattle.sheets.specs.declared.refusal.Refusal.{Refusal}
@@ -23,10 +23,10 @@ module _ (z : Circle) (coins : ℕ → List ℕ) where
   -- after k members have dealt
   pub record Dealt (k : ℕ) (left : ℕ → List ℕ) : Type 0 where
     pub drawn : left ≡ drawn_by z.t k coins
-    pub none : any (lacks z coins) (from k z.n) ≡ any (lacks z coins) (members z.n)
+    pub none : list_any (lacks z coins) (from k z.n) ≡ list_any (lacks z coins) (members z.n)
 
   pub dealt_none : Dealt 0 coins
-  dealt_none = record { drawn = drawn_none z.t coins; none = ap (any (lacks z coins)) (from_none z.n) }
+  dealt_none = record { drawn = drawn_none z.t coins; none = ap (list_any (lacks z coins)) (from_none z.n) }
 
   module _ (k : ℕ) (left : ℕ → List ℕ) where
     own : Dealt k left → left (k + 1) ≡ coins (k + 1)
@@ -38,11 +38,11 @@ module _ (z : Circle) (coins : ℕ → List ℕ) where
       none = any_no (lacks z coins) k z.n lt (le-ltb (length (coins (k + 1))) z.t (omega (arith, ap length (own h)))) ∙ h.none;
     }
 
-    pub dealt-short : k < z.n → length (left (k + 1)) < z.t → Dealt k left → any (lacks z coins) (members z.n) ≡ true
+    pub dealt-short : k < z.n → length (left (k + 1)) < z.t → Dealt k left → list_any (lacks z coins) (members z.n) ≡ true
     dealt-short lt short h =
         sym h.none ∙ any_yes (lacks z coins) k z.n lt (lt-ltb (length (coins (k + 1))) z.t (omega (arith, ap length (own h))))
 
-    pub dealt_all : z.n ≤ k → k ≤ z.n → Dealt k left → (any (lacks z coins) (members z.n) ≡ false) × (left ≡ coins_after z (Product 0 0) coins)
+    pub dealt_all : z.n ≤ k → k ≤ z.n → Dealt k left → (list_any (lacks z coins) (members z.n) ≡ false) × (left ≡ coins_after z (Product 0 0) coins)
     dealt_all le ge h =
         let same : k ≡ z.n = omega arith in
         (sym h.none ∙ any_done (lacks z coins) k z.n le, h.drawn ∙ ap (λ (i : ℕ). drawn_by z.t i coins) same)
@@ -66,13 +66,13 @@ taken_input z l w F F₁ F' F'₁ C C₁ is a a' ac e e' ec =
 -- a line that takes coins of all
 taken_product_at : (z : Circle) (a b : ℕ) (F F' C C₁ : ℕ → List ℕ) (r : Result (Unit {0}) Refusal) → DealersAs z C C₁ r → TakenAs z (Product a b) F F F' F' C C₁ r
 taken_product_at z a b F F' C C₁ (Ok u) h = record {
-  enough = cond-false (any (lacks z C) (members z.n)) (Some NoCoins) None h.0;
+  enough = cond-false (list_any (lacks z C) (members z.n)) (Some NoCoins) None h.0;
   taken = refl;
   taken' = refl;
   drawn = h.1;
 }
 taken_product_at z a b F F' C C₁ (Err e) h =
-    cond-true (any (lacks z C) (members z.n)) (Some NoCoins) None h.0 ∙ ap (λ (x : Refusal). Some x) (sym h.1)
+    cond-true (list_any (lacks z C) (members z.n)) (Some NoCoins) None h.0 ∙ ap (λ (x : Refusal). Some x) (sym h.1)
 
 pub taken_product : (z : Circle) (l : Line) (a b : ℕ) (F F' C C₁ : ℕ → List ℕ) (r : Result (Unit {0}) Refusal) → l ≡ Product a b → DealersAs z C C₁ r → TakenAs z l F F F' F' C C₁ r
 taken_product z l a b F F' C C₁ r is h = subst (λ (x : Line). TakenAs z x F F F' F' C C₁ r) (sym is) (taken_product_at z a b F F' C C₁ r h)

@@ -2,7 +2,7 @@
 use Rattle.std.specs.Prelude.{◌≡◌, ℕ, true, false, cond, ◌&&◌, List, [], ◌∷◌, Some, None, Ok, Err, Option, Result}
 use Rattle.shares.specs.Circle.{Circle, members}
 use Rattle.sheets.specs.Meaning.{figures_after, has_figure}
-use Rattle.sheets.specs.Reading.{any}
+use Rattle.std.specs.List.{list_any}
 use Rattle.sheets.specs.declared.line.Line.{Line}
 use Rattle.sheets.specs.declared.line.Line.TheVariants.{Product}
 use Rattle.sheets.specs.declared.refusal.Refusal.{Refusal}
@@ -34,5 +34,5 @@ TakenAs z l figures figures₁ figures' figures'₁ coins coins₁ (Err e) = sho
 
 -- what a line takes for which all members deal
 abbrev pub DealersAs : Circle → (ℕ → List ℕ) → (ℕ → List ℕ) → Result (Unit {0}) Refusal → Type 0
-DealersAs z coins coins₁ (Ok u) = (any (lacks z coins) (members z.n) ≡ false) × (coins₁ ≡ coins_after z (Product 0 0) coins)
-DealersAs z coins coins₁ (Err e) = (any (lacks z coins) (members z.n) ≡ true) × (e ≡ NoCoins)
+DealersAs z coins coins₁ (Ok u) = (list_any (lacks z coins) (members z.n) ≡ false) × (coins₁ ≡ coins_after z (Product 0 0) coins)
+DealersAs z coins coins₁ (Err e) = (list_any (lacks z coins) (members z.n) ≡ true) × (e ≡ NoCoins)

@@ -4,7 +4,7 @@ use Rattle.field.specs.Field.{all_below}
 use Rattle.shares.specs.Circle.{Circle}
 use Rattle.sheets.specs.Families.{of}
 use Rattle.sheets.specs.Meaning.{result}
-use Rattle.sheets.specs.Reading.{any}
+use Rattle.std.specs.List.{list_any}
 use Rattle.sheets.specs.declared.line.Line.{Line}
 use Rattle.sheets.specs.declared.refusal.Refusal.{Refusal}
 use Rattle.sheets.specs.declared.refusal.Refusal.TheVariants.{NoMemory, OutOfRange}
@@ -15,11 +15,11 @@ use Rattle.pairing.specs.Lacking.{runs_out_in_either}
 
 -- who is watched, given by numbers: a set
 abbrev pub among : List ℕ → ℕ → Bool
-among watched i = any (λ number. nat_eq number i) watched
+among watched i = list_any (λ number. nat_eq number i) watched
 
 -- one who is no member is watched, or more than t are
 abbrev pub unpairable : Circle → List ℕ → Bool
-unpairable z watched = any (outside z.n) watched || nat_lt z.t (how_many (among watched) z.n)
+unpairable z watched = list_any (outside z.n) watched || nat_lt z.t (how_many (among watched) z.n)
 
 -- a number is p or above, or else what is missing first
 abbrev pub refusal : Circle → List Line → List (List ℕ) → List (List ℕ) → List (List ℕ) → Option Refusal

@@ -3,21 +3,21 @@ use Rattle.std.proofs.Common.{◌≡◌, ℕ, ◌+◌, ◌<◌, ◌≤◌, Bool,
 use Rattle.std.proofs.lemmas.Bool.{lt-ltb, le-ltb}
 use Rattle.std.specs.List.{flat_map}
 use Rattle.shares.specs.Circle.{Circle, members}
-use Rattle.sheets.specs.Reading.{any}
+use Rattle.std.specs.List.{list_any}
 use Rattle.runs.specs.Steps.{lacks}
 use Rattle.runs.proofs.Left.{Left, from, from_none, from_more, from_all, left_none, left_more, left_all}
 
 -- a test of each member
-pub any_no : (test : ℕ → Bool) (k n : ℕ) → k < n → test (k + 1) ≡ false → any test (from (k + 1) n) ≡ any test (from k n)
+pub any_no : (test : ℕ → Bool) (k n : ℕ) → k < n → test (k + 1) ≡ false → list_any test (from (k + 1) n) ≡ list_any test (from k n)
 any_no test k n lt e =
-    sym (ap (any test) (from_more k n lt) ∙ ap (λ (b : Bool). b || any test (from (k + 1) n)) e)
+    sym (ap (list_any test) (from_more k n lt) ∙ ap (λ (b : Bool). b || list_any test (from (k + 1) n)) e)
 
-pub any_yes : (test : ℕ → Bool) (k n : ℕ) → k < n → test (k + 1) ≡ true → any test (from k n) ≡ true
+pub any_yes : (test : ℕ → Bool) (k n : ℕ) → k < n → test (k + 1) ≡ true → list_any test (from k n) ≡ true
 any_yes test k n lt e =
-    ap (any test) (from_more k n lt) ∙ ap (λ (b : Bool). b || any test (from (k + 1) n)) e
+    ap (list_any test) (from_more k n lt) ∙ ap (λ (b : Bool). b || list_any test (from (k + 1) n)) e
 
-pub any_done : (test : ℕ → Bool) (k n : ℕ) → n ≤ k → any test (from k n) ≡ false
-any_done test k n le = ap (any test) (from_all k n le)
+pub any_done : (test : ℕ → Bool) (k n : ℕ) → n ≤ k → list_any test (from k n) ≡ false
+any_done test k n le = ap (list_any test) (from_all k n le)
 
 module _ (z : Circle) (c : ℕ → Bool) (coins : ℕ → List ℕ) where
   abbrev pub own : ℕ → List ℕ
@@ -25,11 +25,11 @@ module _ (z : Circle) (c : ℕ → Bool) (coins : ℕ → List ℕ) where
 
   -- after k members
   pub record Noted (before : List ℕ) (k : ℕ) (out : List ℕ) : Type 0 where
-    pub lacking : any (lacks z coins) (from k z.n) ≡ any (lacks z coins) (members z.n)
+    pub lacking : list_any (lacks z coins) (from k z.n) ≡ list_any (lacks z coins) (members z.n)
     pub left : Left own before z.n k out
 
   pub noted_none : (out : List ℕ) → Noted out 0 out
-  noted_none out = record { lacking = ap (any (lacks z coins)) (from_none z.n); left = left_none own out z.n }
+  noted_none out = record { lacking = ap (list_any (lacks z coins)) (from_none z.n); left = left_none own out z.n }
 
   pub noted_more : (before : List ℕ) (k : ℕ) (out out' : List ℕ) → k < z.n → z.t ≤ length (coins (k + 1)) → out' ≡ out ++ own (k + 1) → Noted before k out → Noted before (k + 1) out'
   noted_more before k out out' lt le e h = record {
@@ -37,9 +37,9 @@ module _ (z : Circle) (c : ℕ → Bool) (coins : ℕ → List ℕ) where
     left = left_more own before z.n k out out' (own (k + 1)) lt refl e h.left;
   }
 
-  pub noted-short : (before : List ℕ) (k : ℕ) (out : List ℕ) → k < z.n → length (coins (k + 1)) < z.t → Noted before k out → any (lacks z coins) (members z.n) ≡ true
+  pub noted-short : (before : List ℕ) (k : ℕ) (out : List ℕ) → k < z.n → length (coins (k + 1)) < z.t → Noted before k out → list_any (lacks z coins) (members z.n) ≡ true
   noted-short before k out lt short h =
       sym h.lacking ∙ any_yes (lacks z coins) k z.n lt (lt-ltb (length (coins (k + 1))) z.t short)
 
-  pub noted_all : (before : List ℕ) (k : ℕ) (out : List ℕ) → z.n ≤ k → Noted before k out → (any (lacks z coins) (members z.n) ≡ false) × (out ≡ before ++ flat_map own (members z.n))
+  pub noted_all : (before : List ℕ) (k : ℕ) (out : List ℕ) → z.n ≤ k → Noted before k out → (list_any (lacks z coins) (members z.n) ≡ false) × (out ≡ before ++ flat_map own (members z.n))
   noted_all before k out le h = (sym h.lacking ∙ any_done (lacks z coins) k z.n le, left_all own before z.n k out le h.left)

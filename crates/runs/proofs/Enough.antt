@@ -8,7 +8,7 @@ use Rattle.field.proofs.Below.{both_parts}
 use Rattle.shares.specs.Circle.{Circle, members}
 use Rattle.sheets.specs.Lines.{gives, deals, figures_needed, coins_needed}
 use Rattle.sheets.specs.Meaning.{figures_after}
-use Rattle.sheets.specs.Reading.{any}
+use Rattle.std.specs.List.{list_any}
 use Rattle.sheets.specs.declared.line.Line.{Line}
 use Rattle.sheets.specs.declared.line.Line.TheVariants.{Input, Sum, Times, Product, Open}
 use Rattle.sheets.specs.declared.refusal.Refusal.{Refusal}
@@ -38,7 +38,7 @@ else_parts None b h = (refl, h)
 of_named : (lists : ℕ → List ℕ) (k w i : ℕ) → k ≤ length (lists w) → T (eqb i w) → k ≤ length (lists i)
 of_named lists k w i le t = subst (λ (j : ℕ). k ≤ length (lists j)) (sym (eqb→eq i w t)) le
 
-of_members : (z : Circle) (coins : ℕ → List ℕ) (i : ℕ) → any (lacks z coins) (members z.n) ≡ false → T (ltb 0 i && leb i z.n) → z.t ≤ length (coins i)
+of_members : (z : Circle) (coins : ℕ → List ℕ) (i : ℕ) → list_any (lacks z coins) (members z.n) ≡ false → T (ltb 0 i && leb i z.n) → z.t ≤ length (coins i)
 of_members z coins i e t =
     let b = both_parts (ltb 0 i) (leb i z.n) t in
     let low : 0 < i = ltb→lt 0 i b.0 in
@@ -62,20 +62,20 @@ has-from z (Sum a b) figures coins e = record { giver = λ i t. absurd t; dealer
 has-from z (Times k a) figures coins e = record { giver = λ i t. absurd t; dealer = λ i t. absurd t }
 has-from z (Product a b) figures coins e = record {
   giver = λ i t. absurd t;
-  dealer = λ i t. of_members z coins i (none_parts (any (lacks z coins) (members z.n)) NoCoins None e).0 t;
+  dealer = λ i t. of_members z coins i (none_parts (list_any (lacks z coins) (members z.n)) NoCoins None e).0 t;
 }
 has-from z (Open a) figures coins e = record { giver = λ i t. absurd t; dealer = λ i t. absurd t }
 
-any-from : (test : ℕ → Bool) (xs : List ℕ) → All (λ x. test x ≡ false) xs → any test xs ≡ false
+any-from : (test : ℕ → Bool) (xs : List ℕ) → All (λ x. test x ≡ false) xs → list_any test xs ≡ false
 any-from test [] h = refl
-any-from test (x ∷ xs) h = ap (λ (b : Bool). b || any test xs) h.0 ∙ any-from test xs h.1
+any-from test (x ∷ xs) h = ap (λ (b : Bool). b || list_any test xs) h.0 ∙ any-from test xs h.1
 
 pub short-from : (z : Circle) (l : Line) (figures coins : ℕ → List ℕ) → Has z l figures coins → short_at z l figures coins ≡ None
 short-from z (Input w) figures coins h = has-enough z w figures coins (h.giver w (eqb_refl w)) (h.dealer w (eqb_refl w))
 short-from z (Sum a b) figures coins h = refl
 short-from z (Times k a) figures coins h = refl
 short-from z (Product a b) figures coins h =
-    cond-false (any (lacks z coins) (members z.n)) (Some NoCoins) None
+    cond-false (list_any (lacks z coins) (members z.n)) (Some NoCoins) None
     (any-from (lacks z coins) (members z.n) (each_member (λ i. lacks z coins i ≡ false) z.n z.n (omega arith) (λ i t. le-ltb (length (coins i)) z.t (h.dealer i t))))
 short-from z (Open a) figures coins h = refl
 

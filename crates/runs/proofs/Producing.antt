@@ -13,7 +13,7 @@ use Rattle.shares.specs.Polynomial.{share_of}
 use Rattle.shares.specs.Weights.{weights, dot, joined}
 use Rattle.shares.proofs.Dots.{dot_none, dot-take}
 use Rattle.sheets.specs.Drawing.{after}
-use Rattle.sheets.specs.Reading.{any}
+use Rattle.std.specs.List.{list_any}
 use Rattle.sheets.specs.declared.line.Line.TheVariants.{Product}
 use Rattle.sheets.specs.declared.refusal.Refusal.{Refusal}
 use Rattle.sheets.specs.declared.refusal.Refusal.TheVariants.{NoCoins}
@@ -44,20 +44,20 @@ next_undrawn t k coins = cond-false (ltb 0 (k + 1) && leb (k + 1) k) (drop t (co
 pub drawn-reduced : (t k : ℕ) (coins : ℕ → List ℕ) → Reduced coins → Reduced (drawn_by t k coins)
 drawn-reduced t k coins h i = below-after (ltb 0 i && leb i k) t (coins i) (h i)
 
-any_false : (test : ℕ → Bool) (a n k : ℕ) → any test (range_with_len a n) ≡ false → k < n → test (a + k) ≡ false
+any_false : (test : ℕ → Bool) (a n k : ℕ) → list_any test (range_with_len a n) ≡ false → k < n → test (a + k) ≡ false
 any_false test a zero k e lt = absurd (omega arith)
 any_false test a (suc n) zero e lt =
-    let e₀ : a + 0 ≡ a = omega arith in ap test e₀ ∙ (or_parts (test a) (any test (range_with_len (a + 1) n)) e).0
+    let e₀ : a + 0 ≡ a = omega arith in ap test e₀ ∙ (or_parts (test a) (list_any test (range_with_len (a + 1) n)) e).0
 any_false test a (suc n) (suc k) e lt =
     let e₁ : a + suc k ≡ a + 1 + k = omega arith in
-    ap test e₁ ∙ any_false test (a + 1) n k (or_parts (test a) (any test (range_with_len (a + 1) n)) e).1 (omega arith)
+    ap test e₁ ∙ any_false test (a + 1) n k (or_parts (test a) (list_any test (range_with_len (a + 1) n)) e).1 (omega arith)
 
-pub none_lacks : (z : Circle) (coins : ℕ → List ℕ) (k : ℕ) → any (lacks z coins) (members z.n) ≡ false → k < z.n → z.t ≤ length (coins (k + 1))
+pub none_lacks : (z : Circle) (coins : ℕ → List ℕ) (k : ℕ) → list_any (lacks z coins) (members z.n) ≡ false → k < z.n → z.t ≤ length (coins (k + 1))
 none_lacks z coins k e lt =
     let s : 1 + k ≡ k + 1 = omega arith in
     ltb-false (length (coins (k + 1))) z.t (sym (ap (lacks z coins) s) ∙ any_false (lacks z coins) 1 z.n k e lt)
 
-pub never_short : (z : Circle) (coins now : ℕ → List ℕ) (k : ℕ) → any (lacks z coins) (members z.n) ≡ false → k < z.n → now ≡ drawn_by z.t k coins → length (now (k + 1)) < z.t → ⊥
+pub never_short : (z : Circle) (coins now : ℕ → List ℕ) (k : ℕ) → list_any (lacks z coins) (members z.n) ≡ false → k < z.n → now ≡ drawn_by z.t k coins → length (now (k + 1)) < z.t → ⊥
 never_short z coins now k e lt is short =
     let own : now (k + 1) ≡ coins (k + 1) = ap (λ (l : ℕ → List ℕ). l (k + 1)) is ∙ next_undrawn z.t k coins in
     omega (arith, ap length own, none_lacks z coins k e lt)
@@ -174,18 +174,18 @@ module _ (z : Circle) (c : ℕ → Bool) (f g : ℕ → ℕ) (coins : ℕ → Li
       }
 
 -- with the coins noted before
-pub producing : (z : Circle) (c : ℕ → Bool) (f g : ℕ → ℕ) (coins coins' : ℕ → List ℕ) (seen seen₁ seen₂ : List ℕ) (r : Result (List ℕ) Refusal) → any (lacks z coins) (members z.n) ≡ false →
+pub producing : (z : Circle) (c : ℕ → Bool) (f g : ℕ → ℕ) (coins coins' : ℕ → List ℕ) (seen seen₁ seen₂ : List ℕ) (r : Result (List ℕ) Refusal) → list_any (lacks z coins) (members z.n) ≡ false →
     seen₁ ≡ seen ++ flat_map (λ i. cond (c i) (take z.t (coins i)) []) (members z.n) → MultipliedAs z c f g coins coins' seen₁ seen₂ r → ProductAs z c f g coins coins' seen seen₂ r
 producing z c f g coins coins' seen seen₁ seen₂ (Ok row) e noted h =
     let own : List ℕ = flat_map (λ i. cond (c i) (take z.t (coins i)) []) (members z.n) in
     let got : List ℕ = flat_map (λ i. map (dealing z f g coins i) (watched_in z c)) (members z.n) in
     record {
-      enough = cond-false (any (lacks z coins) (members z.n)) (Some NoCoins) None e;
+      enough = cond-false (list_any (lacks z coins) (members z.n)) (Some NoCoins) None e;
       moved = h.moved;
       made = h.made;
       noted = h.noted ∙ (ap (λ (xs : List ℕ). xs ++ got) noted ∙ append_assoc seen own got);
     }
 producing z c f g coins coins' seen seen₁ seen₂ (Err x) e noted h = inl h
 
-pub all_short : (z : Circle) (coins : ℕ → List ℕ) (e : Refusal) → e ≡ NoCoins → any (lacks z coins) (members z.n) ≡ true → short_at z (Product 0 0) coins coins ≡ Some e
-all_short z coins e is short = cond-true (any (lacks z coins) (members z.n)) (Some NoCoins) None short ∙ sym (ap (λ (x : Refusal). Some x) is)
+pub all_short : (z : Circle) (coins : ℕ → List ℕ) (e : Refusal) → e ≡ NoCoins → list_any (lacks z coins) (members z.n) ≡ true → short_at z (Product 0 0) coins coins ≡ Some e
+all_short z coins e is short = cond-true (list_any (lacks z coins) (members z.n)) (Some NoCoins) None short ∙ sym (ap (λ (x : Refusal). Some x) is)

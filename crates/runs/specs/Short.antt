@@ -2,7 +2,7 @@
 use Rattle.std.specs.Prelude.{ℕ, cond, List, [], ◌∷◌, length, Some, None, Option, ◌==◌, nat_lt}
 use Rattle.shares.specs.Circle.{Circle, members}
 use Rattle.sheets.specs.Meaning.{figures_after}
-use Rattle.sheets.specs.Reading.{any}
+use Rattle.std.specs.List.{list_any}
 use Rattle.sheets.specs.declared.line.Line.{Line}
 use Rattle.sheets.specs.declared.line.Line.TheVariants.{Input, Sum, Times, Product, Open}
 use Rattle.sheets.specs.declared.refusal.Refusal.{Refusal}
@@ -15,7 +15,7 @@ short_at z (Input w) figures coins =
     cond (length (figures w) == 0) (Some NoFigure) (cond (nat_lt (length (coins w)) z.t) (Some NoCoins) None)
 short_at z (Sum a e) figures coins = None
 short_at z (Times k a) figures coins = None
-short_at z (Product a e) figures coins = cond (any (λ i. nat_lt (length (coins i)) z.t) (members z.n)) (Some NoCoins) None
+short_at z (Product a e) figures coins = cond (list_any (λ i. nat_lt (length (coins i)) z.t) (members z.n)) (Some NoCoins) None
 short_at z (Open a) figures coins = None
 
 abbrev pub or_else : Option Refusal → Option Refusal → Option Refusal

@@ -8,7 +8,7 @@ use Rattle.shares.specs.Weights.{joined}
 use Rattle.sheets.specs.Drawing.{after as after_drawing}
 use Rattle.sheets.specs.Lines.{good_line}
 use Rattle.sheets.specs.Meaning.{figures_after}
-use Rattle.sheets.specs.Reading.{any}
+use Rattle.std.specs.List.{list_any}
 use Rattle.sheets.specs.declared.line.Line.{Line}
 use Rattle.sheets.specs.declared.line.Line.TheVariants.{Input, Product}
 use Rattle.sheets.specs.declared.refusal.Refusal.{Refusal}
@@ -35,9 +35,9 @@ lacks z coins i = nat_lt (length (coins i)) z.t
 -- the same of all members
 abbrev pub AllCoinsNoted : Circle → (ℕ → Bool) → (ℕ → List ℕ) → List ℕ → List ℕ → Result (Unit {0}) Refusal → Type 0
 AllCoinsNoted z c coins seen seen' (Ok u) =
-    (any (lacks z coins) (members z.n) ≡ false)
+    (list_any (lacks z coins) (members z.n) ≡ false)
     × (seen' ≡ seen ++ flat_map (λ i. cond (c i) (take z.t (coins i)) []) (members z.n))
-AllCoinsNoted z c coins seen seen' (Err e) = (e ≡ NoMemory) ⊎ ((e ≡ NoCoins) × (any (lacks z coins) (members z.n) ≡ true))
+AllCoinsNoted z c coins seen seen' (Err e) = (e ≡ NoMemory) ⊎ ((e ≡ NoCoins) × (list_any (lacks z coins) (members z.n) ≡ true))
 
 -- member w deals a number to all under its next t coins, and those who are watched see their shares
 pub record Dealing (z : Circle) (c : ℕ → Bool) (w v : ℕ) (coins coins' : ℕ → List ℕ) (seen seen' row : List ℕ) : Type 0 where

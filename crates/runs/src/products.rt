@@ -6,7 +6,7 @@ ghost use Rattle.runs.specs.Steps.{Reduced, lacks, MultipliedAs, ProductAs};
 ghost use Rattle.runs.specs.Watching.{watches};
 ghost use Rattle.shares.specs.Circle.{members};
 ghost use Rattle.sheets.specs.Families.{family, of};
-ghost use Rattle.sheets.specs.Reading.{any};
+ghost use Rattle.std.specs.List.{list_any};
 
 use crate::dealing::deal_out;
 use crate::noting::note_all_coins;
@@ -39,7 +39,7 @@ fn deal_products(
     coins: &mut [&[u32]],
     seen: &mut Vec<u32>,
 ) -> Result<[u32; 15], Refusal>
-    requires { Reduced (of (family coins.old)) × (any (lacks (circle_in setup.now) (of (family coins.old))) (members setup.now.n) ≡ false) }
+    requires { Reduced (of (family coins.old)) × (list_any (lacks (circle_in setup.now) (of (family coins.old))) (members setup.now.n) ≡ false) }
     ensures { (f g : ℕ → ℕ) → a.now ≡ row_of f → b.now ≡ row_of g → MultipliedAs (circle_in setup.now) (watches setup.now.watched) f g (of (family coins.old)) (of (family coins.new)) seen.old.items seen.new.items result }
 {
     let mut made = [0; 15];

@@ -7,7 +7,8 @@ use Rattle.field.specs.Field.{p}
 use Rattle.sheets.specs.Faults.{BadPart, BadForm, WrongSize, TooLarge, NotThere, made_by, line_at, Fault}
 use Rattle.sheets.specs.Laws.{Judgement}
 use Rattle.sheets.specs.Lines.{made}
-use Rattle.sheets.specs.Reading.{any, kind_of, second_of, malformed, line_of, members_of, threshold_of, count_of, parts_of, lines_of, malformed_sheet, bad_shape, out_of_range, undefined, any_undefined, inputs, verdict}
+use Rattle.sheets.specs.Reading.{kind_of, second_of, malformed, line_of, members_of, threshold_of, count_of, parts_of, lines_of, malformed_sheet, bad_shape, out_of_range, undefined, any_undefined, inputs, verdict}
+use Rattle.std.specs.List.{list_any}
 use Rattle.sheets.specs.declared.line.Line.{Line}
 use Rattle.sheets.specs.declared.line.Line.TheVariants.{Input, Sum, Times, Product, Open}
 use Rattle.sheets.specs.Refusals.{number_of}
@@ -20,12 +21,12 @@ decides_leb : (a b : ℕ) → Decides (leb a b) (a ≤ b)
 decides_leb a b = (leb-true a b, le-leb a b)
 
 -- a test of some element
-any_decides : {X : Type 0} (test : X → Bool) (P : X → Type 0) (d : X) (n : ℕ) (xs : List X) → length xs ≡ n → ((x : X) → Decides (test x) (P x)) → Decides (any test xs) ((k : ℕ) × (k < n) × P (get_or xs k d))
+any_decides : {X : Type 0} (test : X → Bool) (P : X → Type 0) (d : X) (n : ℕ) (xs : List X) → length xs ≡ n → ((x : X) → Decides (test x) (P x)) → Decides (list_any test xs) ((k : ℕ) × (k < n) × P (get_or xs k d))
 any_decides {X} test P d n xs len each =
-    Decides-like (any test xs)
+    Decides-like (list_any test xs)
     (λ h. (h.0, omega (arith, h.1), h.2 d))
     (λ h. (h.0, omega (arith, h.1), λ e. subst P (get_or_default xs h.0 d e (omega (arith, h.1))) h.2))
-    (Decides-by_or test P (any test) each refl (λ _ _. refl) xs)
+    (Decides-by_or test P (list_any test) each refl (λ _ _. refl) xs)
 
 part_decides : (nine : List ℕ) → Decides (malformed nine) (BadPart nine)
 part_decides nine =
@@ -43,7 +44,7 @@ form_decides : (bs : List ℕ) → Decides (malformed_sheet bs) (BadForm bs)
 form_decides bs =
     let kind : Bool = not (eqb (get_or bs 0 0) 1) in
     let long : Bool = not (eqb (length bs) (5 + 9 * count_of bs)) in
-    Decides-or (kind || long) (any malformed (parts_of bs))
+    Decides-or (kind || long) (list_any malformed (parts_of bs))
     (Decides-or kind long (Decides-not (eqb (get_or bs 0 0) 1) (Decides-eqb (get_or bs 0 0) 1))
     (Decides-not (eqb (length bs) (5 + 9 * count_of bs)) (Decides-eqb (length bs) (5 + 9 * count_of bs))))
     (any_decides malformed BadPart [] (count_of bs) (parts_of bs) (length_parts bs) part_decides)
@@ -117,7 +118,7 @@ judgement bs =
     let L : Type 0 = (k : ℕ) × (k < count_of bs) × TooLarge n (line_at bs k) in
     let v5 : Option Refusal = cond (ltb 1024 (inputs ls)) (Some TooManyInputs) None in
     let v4 : Option Refusal = cond (any_undefined 0 ls) (Some NotMadeYet) v5 in
-    let v3 : Option Refusal = cond (any (out_of_range n) ls) (Some OutOfRange) v4 in
+    let v3 : Option Refusal = cond (list_any (out_of_range n) ls) (Some OutOfRange) v4 in
     let v2 : Option Refusal = cond (bad_shape n (threshold_of bs) (count_of bs)) (Some BadShape) v3 in
     let above : (j : ℕ) → j < 12 → (k : ℕ) → I k → j < k = λ j lt k q. omega (arith, q.0) in
     let above4 : (j : ℕ) → j < 4 → (k : ℕ) → Or NotMadeYet N I k → j < k = λ j lt. above_or NotMadeYet N I j lt (above j (omega arith)) in
@@ -126,6 +127,6 @@ judgement bs =
     (tells_first (malformed_sheet bs) Malformed (BadForm bs) (Or BadShape (WrongSize bs) (Or OutOfRange L (Or NotMadeYet N I))) v2 (form_decides bs)
     (above_or BadShape (WrongSize bs) (Or OutOfRange L (Or NotMadeYet N I)) 1 (omega arith) (above3 1 (omega arith)))
     (tells_first (bad_shape n (threshold_of bs) (count_of bs)) BadShape (WrongSize bs) (Or OutOfRange L (Or NotMadeYet N I)) v3 (size_decides bs) (above3 2 (omega arith))
-    (tells_first (any (out_of_range n) ls) OutOfRange L (Or NotMadeYet N I) v4 (any_decides (out_of_range n) (TooLarge n) (Open 0) (count_of bs) ls (length_lines bs) (large_decides n)) (above4 3 (omega arith))
+    (tells_first (list_any (out_of_range n) ls) OutOfRange L (Or NotMadeYet N I) v4 (any_decides (out_of_range n) (TooLarge n) (Open 0) (count_of bs) ls (length_lines bs) (large_decides n)) (above4 3 (omega arith))
     (tells_first (any_undefined 0 ls) NotMadeYet N I v5 (lines_undefined bs) (above 4 (omega arith))
     (tells_last (ltb 1024 (inputs ls)) TooManyInputs (1024 < inputs ls) (Decides-ltb 1024 (inputs ls)))))))

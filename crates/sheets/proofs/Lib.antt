@@ -7,7 +7,6 @@ pub mod Judgement
 pub mod RoundTrips
 pub mod Drawn
 pub mod Needed
-pub mod AllBelow
 pub mod Works
 pub mod Plainly
 pub mod Words

@@ -9,7 +9,8 @@ use Rattle.field.specs.Field.{p}
 use Rattle.sheets.specs.Bytes.{raw_bytes, line_bytes, sheet_bytes}
 use Rattle.sheets.specs.Laws.{Rewritten, Reread}
 use Rattle.sheets.specs.Lines.{made, good_line, good}
-use Rattle.sheets.specs.Reading.{any, kind_of, first_of, second_of, malformed, line_of, nines, count_of, parts_of, lines_of, malformed_sheet, bad_shape, out_of_range, undefined, any_undefined, inputs, verdict_on}
+use Rattle.sheets.specs.Reading.{kind_of, first_of, second_of, malformed, line_of, nines, count_of, parts_of, lines_of, malformed_sheet, bad_shape, out_of_range, undefined, any_undefined, inputs, verdict_on}
+use Rattle.std.specs.List.{list_any}
 use Rattle.sheets.specs.declared.line.Line.{Line}
 use Rattle.sheets.specs.declared.line.Line.TheVariants.{Input, Sum, Times, Product, Open}
 use Rattle.sheets.specs.declared.refusal.Refusal.TheVariants.{Malformed, BadShape, OutOfRange, NotMadeYet, TooManyInputs}
@@ -70,7 +71,7 @@ lines_back n k (l ∷ ls) few small g =
     ap₂ (λ (x : Line) (xs : List Line). x ∷ xs) (line-back l (line_fits n k l few (omega arith) h.0))
     (lines_back n (made l k) ls few (omega (arith, made_at_most l k)) h.1)
 
-none_malformed : (ls : List Line) → any malformed (map line_bytes ls) ≡ false
+none_malformed : (ls : List Line) → list_any malformed (map line_bytes ls) ≡ false
 none_malformed [] = refl
 none_malformed (l ∷ ls) = ap₂ ◌||◌ (well-formed l) (none_malformed ls)
 
@@ -82,7 +83,7 @@ line_clean n k (Times c a) small g = (grind (arith, nat_tests), grind (arith, na
 line_clean n k (Product a e) small g = (grind (arith, nat_tests), grind (arith, nat_tests))
 line_clean n k (Open a) small g = (grind (arith, nat_tests), grind (arith, nat_tests))
 
-lines_clean : (n k : ℕ) (ls : List Line) → k + length ls ≤ 8192 → good n k ls ≡ true → (any (out_of_range n) ls ≡ false) × (any_undefined k ls ≡ false)
+lines_clean : (n k : ℕ) (ls : List Line) → k + length ls ≤ 8192 → good n k ls ≡ true → (list_any (out_of_range n) ls ≡ false) × (any_undefined k ls ≡ false)
 unfolding good any_undefined
 lines_clean n k [] small g = (refl, refl)
 lines_clean n k (l ∷ ls) small g =
@@ -111,7 +112,7 @@ reread n t lines h =
     let parts : parts_of bs ≡ map line_bytes lines = ap (λ (k : ℕ). nines k (flat_map line_bytes lines)) count ∙ parts_back lines in
     let same : lines_of bs ≡ lines = ap (map line_of) parts ∙ lines_back n 0 lines h.few (omega (arith, h.short)) good-true in
     let long : length bs ≡ 5 + 9 * count_of bs = omega (arith, length_lines lines) in
-    let form : malformed_sheet bs ≡ false = ap₂ (λ (x y : Bool). not x || y) (eq-eqb (length bs) (5 + 9 * count_of bs) long) (ap (any malformed) parts ∙ none_malformed lines) in
+    let form : malformed_sheet bs ≡ false = ap₂ (λ (x y : Bool). not x || y) (eq-eqb (length bs) (5 + 9 * count_of bs) long) (ap (list_any malformed) parts ∙ none_malformed lines) in
     let size : bad_shape n t (count_of bs) ≡ false = ap (bad_shape n t) count ∙ grind (arith, nat_tests, h.few, h.enough, h.some, h.short) in
     let clean = lines_clean n 0 lines (omega (arith, h.short)) good-true in
     let on : verdict_on n (lines_of bs) ≡ None =
@@ -183,11 +184,11 @@ part_back xs len bytes ok =
     let kindly = or_parts (eqb kind 0) (ltb 5 kind) parts.0 in
     kind_back kind (first_of xs) (second_of xs) (eqb-false kind 0 kindly.0) (ltb-false 5 kind kindly.1) (second_zero kind (second_of xs) parts.1) ∙ nine_back xs len bytes
 
-parts_rewritten : (count : ℕ) (bs : List ℕ) → length bs ≡ 9 * count → All (λ b. b < 256) bs → any malformed (nines count bs) ≡ false → flat_map line_bytes (map line_of (nines count bs)) ≡ bs
+parts_rewritten : (count : ℕ) (bs : List ℕ) → length bs ≡ 9 * count → All (λ b. b < 256) bs → list_any malformed (nines count bs) ≡ false → flat_map line_bytes (map line_of (nines count bs)) ≡ bs
 unfolding nines
 parts_rewritten zero bs len bytes ok = sym (nil_from_length bs (omega arith))
 parts_rewritten (suc count) bs len bytes ok =
-    let h = or_parts (malformed (take 9 bs)) (any malformed (nines count (drop 9 bs))) ok in
+    let h = or_parts (malformed (take 9 bs)) (list_any malformed (nines count (drop 9 bs))) ok in
     ap₂ ◌++◌
     (part_back (take 9 bs) (length-take-le 9 bs (omega arith)) (All-take (λ b. b < 256) 9 bs bytes) h.0)
     (parts_rewritten count (drop 9 bs) (length-drop 9 bs ∙ omega arith) (All-drop (λ b. b < 256) 9 bs bytes) h.1)
@@ -214,7 +215,7 @@ pub rewritten : Rewritten
 rewritten bs bytes e =
     let kind : Bool = not (eqb (get_or bs 0 0) 1) in
     let long : Bool = not (eqb (length bs) (5 + 9 * count_of bs)) in
-    let form = or_parts (kind || long) (any malformed (parts_of bs)) (none_malformed_from (malformed_sheet bs) true _ e) in
+    let form = or_parts (kind || long) (list_any malformed (parts_of bs)) (none_malformed_from (malformed_sheet bs) true _ e) in
     let head = or_parts kind long form.0 in
     let one : get_or bs 0 0 ≡ 1 = eqb-true (get_or bs 0 0) 1 (not_false (eqb (get_or bs 0 0) 1) head.0) in
     let len : length bs ≡ 5 + 9 * count_of bs = eqb-true (length bs) (5 + 9 * count_of bs) (not_false (eqb (length bs) (5 + 9 * count_of bs)) head.1) in

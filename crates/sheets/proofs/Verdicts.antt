@@ -4,7 +4,8 @@ use Rattle.std.proofs.lemmas.List.{take_rest, length-drop}
 use Rattle.std.proofs.lemmas.Bool.{or_parts, eq-eqb, eqb-false, ltb-false, and_from}
 use Rattle.std.proofs.lemmas.Bool.Decides.{nat_tests}
 use Rattle.sheets.specs.Lines.{made, good_line, good}
-use Rattle.sheets.specs.Reading.{any, malformed, line_of, nines, members_of, threshold_of, count_of, parts_of, lines_of, malformed_sheet, bad_shape, out_of_range, undefined, any_undefined, inputs, verdict_on, verdict}
+use Rattle.sheets.specs.Reading.{malformed, line_of, nines, members_of, threshold_of, count_of, parts_of, lines_of, malformed_sheet, bad_shape, out_of_range, undefined, any_undefined, inputs, verdict_on, verdict}
+use Rattle.std.specs.List.{list_any}
 use Rattle.sheets.specs.declared.line.Line.{Line}
 use Rattle.sheets.specs.declared.line.Line.TheVariants.{Input, Sum, Times, Product, Open}
 use Rattle.sheets.specs.declared.refusal.Refusal.{Refusal}
@@ -32,28 +33,28 @@ abbrev by_tests : Bool → Bool → Option Refusal → Option Refusal
 by_tests bad misshapen rest = cond bad (Some Malformed) (cond misshapen (Some BadShape) rest)
 
 framed_verdict : (bs : List ℕ) (count : ℕ) → Framed bs count →
-    verdict bs ≡ by_tests (any malformed (nines count (tail_of bs))) (bad_shape (members_of bs) (threshold_of bs) count) (verdict_on (members_of bs) (map line_of (nines count (tail_of bs))))
+    verdict bs ≡ by_tests (list_any malformed (nines count (tail_of bs))) (bad_shape (members_of bs) (threshold_of bs) count) (verdict_on (members_of bs) (map line_of (nines count (tail_of bs))))
 framed_verdict bs count h =
     let counted : count ≡ count_of bs = h.counted in
     let len : length bs ≡ 5 + 9 * count_of bs = omega (arith, ap length (take_rest bs 5), length-drop 5 bs, h.five, h.long) in
     let a : not (eqb (get_or bs 0 0) 1) ≡ false = ap not (eq-eqb (get_or bs 0 0) 1 h.kind) in
     let b : not (eqb (length bs) (5 + 9 * count_of bs)) ≡ false = ap not (eq-eqb (length bs) (5 + 9 * count_of bs) len) in
-    let same : malformed_sheet bs ≡ any malformed (parts_of bs) = or_no (not (eqb (get_or bs 0 0) 1)) (not (eqb (length bs) (5 + 9 * count_of bs))) (any malformed (parts_of bs)) a b in
+    let same : malformed_sheet bs ≡ list_any malformed (parts_of bs) = or_no (not (eqb (get_or bs 0 0) 1)) (not (eqb (length bs) (5 + 9 * count_of bs))) (list_any malformed (parts_of bs)) a b in
     ap (λ (x : Bool). by_tests x (bad_shape (members_of bs) (threshold_of bs) (count_of bs)) (verdict_on (members_of bs) (lines_of bs))) same
-    ∙ ap₂ (λ (n : ℕ) (xs : List (List ℕ)). by_tests (any malformed xs) (bad_shape (members_of bs) (threshold_of bs) n) (verdict_on (members_of bs) (map line_of xs)))
+    ∙ ap₂ (λ (n : ℕ) (xs : List (List ℕ)). by_tests (list_any malformed xs) (bad_shape (members_of bs) (threshold_of bs) n) (verdict_on (members_of bs) (map line_of xs)))
     (sym counted) (sym (parts_of_tail bs count counted))
 
-pub verdict-malformed : (bs : List ℕ) (count : ℕ) → Framed bs count → any malformed (nines count (tail_of bs)) ≡ true → verdict bs ≡ Some Malformed
+pub verdict-malformed : (bs : List ℕ) (count : ℕ) → Framed bs count → list_any malformed (nines count (tail_of bs)) ≡ true → verdict bs ≡ Some Malformed
 verdict-malformed bs count h e =
     framed_verdict bs count h
     ∙ ap (λ (x : Bool). by_tests x (bad_shape (members_of bs) (threshold_of bs) count) (verdict_on (members_of bs) (map line_of (nines count (tail_of bs))))) e
 
-pub verdict_misshapen : (bs : List ℕ) (count : ℕ) → Framed bs count → any malformed (nines count (tail_of bs)) ≡ false → bad_shape (members_of bs) (threshold_of bs) count ≡ true → verdict bs ≡ Some BadShape
+pub verdict_misshapen : (bs : List ℕ) (count : ℕ) → Framed bs count → list_any malformed (nines count (tail_of bs)) ≡ false → bad_shape (members_of bs) (threshold_of bs) count ≡ true → verdict bs ≡ Some BadShape
 verdict_misshapen bs count h e f =
     framed_verdict bs count h
     ∙ ap₂ (λ (x y : Bool). by_tests x y (verdict_on (members_of bs) (map line_of (nines count (tail_of bs))))) e f
 
-pub verdict_lines : (bs : List ℕ) (count : ℕ) → Framed bs count → any malformed (nines count (tail_of bs)) ≡ false → bad_shape (members_of bs) (threshold_of bs) count ≡ false →
+pub verdict_lines : (bs : List ℕ) (count : ℕ) → Framed bs count → list_any malformed (nines count (tail_of bs)) ≡ false → bad_shape (members_of bs) (threshold_of bs) count ≡ false →
     (lines : List Line) → lines ≡ map line_of (nines count (tail_of bs)) → verdict bs ≡ verdict_on (members_of bs) lines
 verdict_lines bs count h e f lines same =
     framed_verdict bs count h
@@ -92,16 +93,16 @@ good_line_lem n k (Times c a) r u = grind (arith, nat_tests)
 good_line_lem n k (Product a e) r u = grind (arith, nat_tests)
 good_line_lem n k (Open a) r u = grind (arith, nat_tests)
 
-pub good_lines : (n k : ℕ) (ls : List Line) → any (out_of_range n) ls ≡ false → any_undefined k ls ≡ false → good n k ls ≡ true
+pub good_lines : (n k : ℕ) (ls : List Line) → list_any (out_of_range n) ls ≡ false → any_undefined k ls ≡ false → good n k ls ≡ true
 unfolding good any_undefined
 good_lines n k [] r u = refl
 good_lines n k (l ∷ ls) r u =
-    let hr = or_parts (out_of_range n l) (any (out_of_range n) ls) r in
+    let hr = or_parts (out_of_range n l) (list_any (out_of_range n) ls) r in
     let hu = or_parts (undefined k l) (any_undefined (made l k) ls) u in
     and_from (good_line n k l) (good n (made l k) ls) (good_line_lem n k l hr.0 hu.0) (good_lines n (made l k) ls hr.1 hu.1)
 
 pub record Clean (n : ℕ) (ls : List Line) : Type 0 where
-  pub ranged : any (out_of_range n) ls ≡ false
+  pub ranged : list_any (out_of_range n) ls ≡ false
   pub defined : any_undefined 0 ls ≡ false
   pub given : inputs ls ≤ 1024
 
@@ -114,7 +115,7 @@ none_holds false false true e = let z : ◌≡◌ {A = ℕ} 0 1 = cc in absurd (
 
 pub clean-from : (n : ℕ) (ls : List Line) → verdict_on n ls ≡ None → Clean n ls
 clean-from n ls e =
-    let h = none_holds (any (out_of_range n) ls) (any_undefined 0 ls) (ltb 1024 (inputs ls)) e in
+    let h = none_holds (list_any (out_of_range n) ls) (any_undefined 0 ls) (ltb 1024 (inputs ls)) e in
     record { ranged = h.0; defined = h.1; given = ltb-false 1024 (inputs ls) h.2 }
 
 pub good-from : (n : ℕ) (ls : List Line) → Clean n ls → T (good n 0 ls)

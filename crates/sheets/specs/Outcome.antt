@@ -5,15 +5,16 @@ use Rattle.std.specs.declared.alloc.Global.{Global}
 use Rattle.sheets.specs.Families.{of}
 use Rattle.sheets.specs.Lines.{good}
 use Rattle.sheets.specs.Meaning.{has_figure, have_figures, figures_after, plain_made, plain_opened, result}
-use Rattle.sheets.specs.Reading.{any, malformed, line_of, nines, verdict, members_of, threshold_of, lines_of}
+use Rattle.sheets.specs.Reading.{malformed, line_of, nines, verdict, members_of, threshold_of, lines_of}
+use Rattle.std.specs.List.{list_any}
 use Rattle.sheets.specs.declared.line.Line.{Line}
 use Rattle.sheets.specs.declared.refusal.Refusal.{Refusal}
 use Rattle.sheets.specs.declared.refusal.Refusal.TheVariants.{NoMemory, Malformed, OutOfRange, NoFigure}
 use Rattle.sheets.specs.declared.sheet.Sheet.{Sheet}
 
 abbrev pub LinesAs : ℕ → List ℕ → Result (Vec Line Global) Refusal → Type 0
-LinesAs count bs (Ok lines) = (any malformed (nines count bs) ≡ false) × (vec_items lines ≡ map line_of (nines count bs))
-LinesAs count bs (Err e) = (e ≡ NoMemory) ⊎ ((e ≡ Malformed) × (any malformed (nines count bs) ≡ true))
+LinesAs count bs (Ok lines) = (list_any malformed (nines count bs) ≡ false) × (vec_items lines ≡ map line_of (nines count bs))
+LinesAs count bs (Err e) = (e ≡ NoMemory) ⊎ ((e ≡ Malformed) × (list_any malformed (nines count bs) ≡ true))
 
 -- a sheet holds the members, the threshold and the lines that its bytes say
 pub record Holds (s : Sheet) (n t : ℕ) (lines : List Line) : Type 0 where

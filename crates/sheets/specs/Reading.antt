@@ -1,5 +1,6 @@
 -- What is read in the bytes of a sheet: the sheet, or the lowest of its faults.
 use Rattle.std.specs.Prelude.{ℕ, zero, suc, ◌+◌, ◌*◌, Bool, false, cond, not, ◌&&◌, ◌||◌, List, [], ◌∷◌, map, length, take, drop, Some, None, Option, ◌==◌, nat_le, nat_lt, slice_index}
+use Rattle.std.specs.List.{list_any}
 use Rattle.field.specs.Field.{p}
 use Rattle.sheets.specs.Bytes.{word_at}
 use Rattle.sheets.specs.Lines.{made}
@@ -7,10 +8,6 @@ use Rattle.sheets.specs.declared.line.Line.{Line}
 use Rattle.sheets.specs.declared.line.Line.TheVariants.{Input, Sum, Times, Product, Open}
 use Rattle.sheets.specs.declared.refusal.Refusal.{Refusal}
 use Rattle.sheets.specs.declared.refusal.Refusal.TheVariants.{Malformed, BadShape, OutOfRange, NotMadeYet, TooManyInputs}
-
-abbrev pub any : {X : Type 0} → (X → Bool) → List X → Bool
-any test [] = false
-any test (x ∷ xs) = test x || any test xs
 
 -- the nine bytes of a line as they stand: a kind and two numbers
 abbrev pub kind_of : List ℕ → ℕ
@@ -59,7 +56,7 @@ lines_of bs = map line_of (parts_of bs)
 
 -- 1: unknown kind of the sheet, bad length, or a malformed line
 abbrev pub malformed_sheet : List ℕ → Bool
-malformed_sheet bs = not (slice_index bs 0 == 1) || not (length bs == 5 + 9 * count_of bs) || any malformed (parts_of bs)
+malformed_sheet bs = not (slice_index bs 0 == 1) || not (length bs == 5 + 9 * count_of bs) || list_any malformed (parts_of bs)
 
 -- 2: too many members, or too few for the threshold (so also none), or too few or too many lines
 abbrev pub bad_shape : ℕ → ℕ → ℕ → Bool
@@ -100,7 +97,7 @@ inputs (l ∷ ls) = is_input l + inputs ls
 -- what is wrong with lines under n members, the lowest first
 abbrev pub verdict_on : ℕ → List Line → Option Refusal
 verdict_on n ls =
-    cond (any (out_of_range n) ls) (Some OutOfRange)
+    cond (list_any (out_of_range n) ls) (Some OutOfRange)
     (cond (any_undefined 0 ls) (Some NotMadeYet)
     (cond (nat_lt 1024 (inputs ls)) (Some TooManyInputs) None))
 

@@ -1,6 +1,7 @@
 // What may be wrong with lines that are well formed.
 ghost use Rattle.std.specs.Prelude.{◌≡◌, ◌+◌, ◌<◌, ◌≤◌, length};
-ghost use Rattle.sheets.specs.Reading.{any, any_undefined, bad_shape, out_of_range, inputs as inputs_of, verdict_on};
+ghost use Rattle.sheets.specs.Reading.{any_undefined, bad_shape, out_of_range, inputs as inputs_of, verdict_on};
+ghost use Rattle.std.specs.List.{list_any};
 
 use crate::line::Line;
 use crate::refusal::Refusal;
@@ -30,7 +31,7 @@ pub(crate) fn judge(n: u32, lines: &[Line]) -> Option<Refusal>
 }
 
 fn names_no_member(n: u32, lines: &[Line]) -> bool
-    ensures { result ≡ any (out_of_range n) lines.now }
+    ensures { result ≡ list_any (out_of_range n) lines.now }
 {
     for line in lines {
         if line.is_out_of_range(n) {

@@ -1,26 +1,17 @@
 // Whether numbers lie below P.
-ghost use Rattle.std.specs.Prelude.{◌≡◌};
-ghost use Rattle.sheets.specs.Families.{family};
+ghost use Rattle.std.specs.Prelude.{◌≡◌, map};
 ghost use Rattle.field.specs.Field.{below, all_below};
+
+use std::convert::AsSlice;
 
 pub fn are_below(numbers: &[u32]) -> bool
     ensures { result ≡ below numbers.now }
 {
-    for number in numbers {
-        if *number >= field::P {
-            return false;
-        }
-    }
-    true
+    numbers.iter().all(|number| *number < field::P)
 }
 
-pub fn are_all_below(lists: &[&[u32]]) -> bool
-    ensures { result ≡ all_below (family lists.now) }
+pub fn are_all_below<L: AsSlice<u32>>(lists: &[L]) -> bool
+    ensures { result ≡ all_below (map L.items lists.now) }
 {
-    for list in lists {
-        if !are_below(list) {
-            return false;
-        }
-    }
-    true
+    lists.iter().all(|list| are_below(list.as_slice()))
 }

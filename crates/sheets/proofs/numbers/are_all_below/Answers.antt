@@ -1,12 +1,12 @@
-use Rattle.std.proofs.Common.{sym, ◌∙◌}
-use Rattle.sheets.proofs.AllBelow.{lists_hit, lists_more, lists_all}
+use Rattle.std.proofs.Common.{sym, ◌∙◌, rules}
+use Rattle.std.proofs.lemmas.Iterator.{YieldsList-from_slice}
+use Rattle.std.proofs.lemmas.Iterator.Search.{all_from_yields_List}
+use Rattle.std.proofs.lemmas.List.Folds.{list_all-map}
+use Rattle.field.specs.Field.{below}
 use Rattle.sheets.proofs.numbers.are_all_below.Goals as goal
 
-pub returns-then-not-are_below : goal.returns-then-not-are_below
-returns-then-not-are_below c = lists_hit c.args.lists.now c.loop-list.list-index _ c.loop-list-test.true c.if-not-are_below.ensures ∙ sym c.loop-list.invariant
-
-pub loop-list-preserved : goal.loop-list-preserved
-loop-list-preserved c = c.loop-list.invariant ∙ lists_more c.args.lists.now c.loop-list.list-index _ c.loop-list-test.true c.if-not-are_below.ensures
-
 pub returns : goal.returns
-returns c = lists_all c.args.lists.now c.loop-list.list-index c.loop-list-test.false ∙ sym c.loop-list.invariant
+returns g c =
+    all_from_yields_List (λ xs. below (g.L.AsSlice.items xs)) _ _ _ c.all.ensures.ran
+        (YieldsList-from_slice c.args.lists.now cc) (λ x b q k. search rules)
+    ∙ sym (list_all-map below g.L.AsSlice.items c.args.lists.now)
