@@ -1,6 +1,5 @@
 -- Sums of products: their steps in a loop, and that they are linear.
-use Rattle.std.proofs.Common.{◌≡◌, ℕ, ◌+◌, ◌<◌, ◌≤◌, List, [], ◌∷◌, map, length, get_or, take, drop, sym, refl, ap, ◌∙◌, ap₂, arith, lit<}
-use Rattle.std.proofs.lemmas.List.{drop_more, drop_all}
+use Rattle.std.proofs.Common.{◌≡◌, ℕ, ◌<◌, List, [], ◌∷◌, map, length, take, refl, ap, ◌∙◌, ◌⊎◌, inl, inr, arith, lit<}
 use Rattle.field.specs.Field.{p, ◌⊕◌, ◌⊗◌}
 use Rattle.field.proofs.Ring.{ring, ⊕-below, ⊕-0, 0-⊕, reduced, ⊕_assoc}
 use Rattle.shares.specs.Weights.{dot}
@@ -25,17 +24,15 @@ dot-cons : (x y : ℕ) (xs ys : List ℕ) → dot (x ∷ xs) (y ∷ ys) ≡ x �
 unfolding dot
 dot-cons x y xs ys = refl
 
-pub dot_more : (a : ℕ) (xs ys : List ℕ) (i : ℕ) → i < length xs → i < length ys → a ⊕ get_or xs i 0 ⊗ get_or ys i 0 ⊕ dot (drop (i + 1) xs) (drop (i + 1) ys) ≡ a ⊕ dot (drop i xs) (drop i ys)
-dot_more a xs ys i lx ly =
-    let x : ℕ = get_or xs i 0 in
-    let y : ℕ = get_or ys i 0 in
-    let left : dot (drop i xs) (drop i ys) ≡ x ⊗ y ⊕ dot (drop (i + 1) xs) (drop (i + 1) ys) =
-    ap₂ dot (drop_more xs i 0 lx) (drop_more ys i 0 ly) ∙ dot-cons x y (drop (i + 1) xs) (drop (i + 1) ys) in
-    ⊕_assoc a (x ⊗ y) (dot (drop (i + 1) xs) (drop (i + 1) ys)) ∙ sym (ap (λ (d : ℕ). a ⊕ d) left)
+pub dot_more : (a w x : ℕ) (ws ws' xs xs' : List ℕ) → ws ≡ w ∷ ws' → xs ≡ x ∷ xs' → a ⊕ w ⊗ x ⊕ dot ws' xs' ≡ a ⊕ dot ws xs
+dot_more a w x ws ws' xs xs' ew ex = rw (ew, ex, dot-cons w x ws' xs') (⊕_assoc a (w ⊗ x) (dot ws' xs'))
 
-pub dot_all : (a : ℕ) (xs ys : List ℕ) (i : ℕ) → a < p → length xs ≤ i → a ⊕ dot (drop i xs) ys ≡ a
+pub dot_done : (a : ℕ) (ws xs : List ℕ) → a < p → (length ws ≡ 0) ⊎ (length xs ≡ 0) → a ⊕ dot ws xs ≡ a
 unfolding dot
-dot_all a xs ys i lt le = ap (λ (l : List ℕ). a ⊕ dot l ys) (drop_all i xs le) ∙ (⊕-0 a ∙ reduced lt)
+dot_done a [] xs lt e = ⊕-0 a ∙ reduced lt
+dot_done a (w ∷ ws) [] lt e = ⊕-0 a ∙ reduced lt
+dot_done a (w ∷ ws) (x ∷ xs) lt (inl e) = absurd (omega (arith, e))
+dot_done a (w ∷ ws) (x ∷ xs) lt (inr e) = absurd (omega (arith, e))
 
 pub dot_zeros : (ws xs : List ℕ) → dot ws (map (λ x. 0) xs) ≡ 0
 unfolding dot

@@ -52,7 +52,7 @@ fn raise(c: u32, row: &mut [u32])
     requires { (c < p) × (length row.old ≤ 15) }
     ensures { (k : ℕ) → k < length row.old → slice_index row.new k ≡ c ⊕ (k + 1) ⊗ slice_index_or row.old k 0 }
 {
-    for i in 0..row.len() {
-        row[i] = field::sum(c, field::product(i as u32 + 1, row[i]));
+    for (i, share) in row.iter_mut().enumerate() {
+        *share = field::sum(c, field::product(i as u32 + 1, *share));
     }
 }

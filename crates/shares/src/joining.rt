@@ -10,8 +10,8 @@ pub fn fill_weights(weights: &mut [u32])
     ensures { weights.new ≡ weights_of (length weights.old) }
 {
     let m = weights.len();
-    for i in 0..m {
-        weights[i] = weight(i + 1, m);
+    for (i, place) in weights.iter_mut().enumerate() {
+        *place = weight(i + 1, m);
     }
 }
 
@@ -47,8 +47,8 @@ pub fn join(weights: &[u32], shares: &[u32]) -> u32
     ensures { (result ≡ dot weights.now (take (length weights.now) shares.now)) × (result < p) }
 {
     let mut joined = 0;
-    for i in 0..weights.len() {
-        joined = field::sum(joined, field::product(weights[i], shares[i]));
+    for (weight, share) in weights.iter().zip(shares) {
+        joined = field::sum(joined, field::product(*weight, *share));
     }
     joined
 }

@@ -7,12 +7,9 @@ mod tests {
     use std::alloc::{AllocError, Global};
     use std::test::Fail;
 
-    // The number with which bytes are refused, or 99 where they are a sheet.
-    fn verdict(heap: Global, bytes: &[u8]) -> u32 {
-        match Sheet::read(heap, bytes) {
-            Ok(_) => 99,
-            Err(refusal) => refusal.number(),
-        }
+    // The number with which bytes are refused, or none where they are a sheet.
+    fn verdict(heap: Global, bytes: &[u8]) -> Option<u32> {
+        Sheet::read(heap, bytes).err().map(Refusal::number)
     }
 
     const SMALL: [u8; 32] = [
@@ -23,25 +20,25 @@ mod tests {
     ];
 
     // SMALL with some byte changed, and what comes of it.
-    const CHANGED: [(usize, u8, u32); 18] = [
-        (0, 1, 99),
-        (0, 2, 1),
-        (1, 0, 2),
-        (1, 16, 2),
-        (2, 2, 2),
-        (4, 2, 1),
-        (5, 0, 1),
-        (5, 6, 1),
-        (9, 0, 3),
-        (9, 4, 3),
-        (13, 1, 1),
-        (15, 128, 3),
-        (18, 1, 4),
-        (22, 1, 4),
-        (23, 7, 1),
-        (27, 2, 4),
-        (24, 127, 4),
-        (31, 1, 1),
+    const CHANGED: [(usize, u8, Option<u32>); 18] = [
+        (0, 1, None),
+        (0, 2, Some(1)),
+        (1, 0, Some(2)),
+        (1, 16, Some(2)),
+        (2, 2, Some(2)),
+        (4, 2, Some(1)),
+        (5, 0, Some(1)),
+        (5, 6, Some(1)),
+        (9, 0, Some(3)),
+        (9, 4, Some(3)),
+        (13, 1, Some(1)),
+        (15, 128, Some(3)),
+        (18, 1, Some(4)),
+        (22, 1, Some(4)),
+        (23, 7, Some(1)),
+        (27, 2, Some(4)),
+        (24, 127, Some(4)),
+        (31, 1, Some(1)),
     ];
 
     #[test]
@@ -56,13 +53,13 @@ mod tests {
     }
 
     // Two bytes changed: the lower number wins.
-    const TWICE: [(usize, u8, usize, u8, u32); 6] = [
-        (1, 16, 5, 6, 1),
-        (1, 16, 9, 0, 2),
-        (9, 4, 27, 2, 3),
-        (15, 128, 27, 2, 3),
-        (2, 2, 23, 9, 1),
-        (27, 2, 31, 1, 1),
+    const TWICE: [(usize, u8, usize, u8, Option<u32>); 6] = [
+        (1, 16, 5, 6, Some(1)),
+        (1, 16, 9, 0, Some(2)),
+        (9, 4, 27, 2, Some(3)),
+        (15, 128, 27, 2, Some(3)),
+        (2, 2, 23, 9, Some(1)),
+        (27, 2, 31, 1, Some(1)),
     ];
 
     #[test]
@@ -82,17 +79,17 @@ mod tests {
     fn cut_at_every_length(rt: HostRuntime) {
         let heap = rt.alloc();
         for length in 0..32 {
-            assert_eq!(rt; verdict(heap, &SMALL[0..length]), 1);
+            assert_eq!(rt; verdict(heap, &SMALL[0..length]), Some(1));
         }
         assert_eq!(rt;
             verdict(heap, &[1, 4, 2, 0, 1, 1, 0, 0, 0, 1, 0, 0, 0, 0]),
-            2
+            Some(2)
         );
         assert_eq!(rt;
             verdict(heap, &[1, 3, 1, 0, 1, 5, 0, 0, 0, 0, 0, 0, 0, 0]),
-            4
+            Some(4)
         );
-        assert_eq!(rt; verdict(heap, &[1, 3, 1, 0, 0]), 2);
+        assert_eq!(rt; verdict(heap, &[1, 3, 1, 0, 0]), Some(2));
     }
 
     // A sheet of so many lines, of which the first so many are inputs and the others multiples of value 0.
@@ -112,14 +109,14 @@ mod tests {
     #[test]
     fn limits(rt: HostRuntime) -> Result<(), Fail> {
         let heap = rt.alloc();
-        assert_eq!(rt; verdict(heap, &long(heap, 1, 4096)?), 99);
-        assert_eq!(rt; verdict(heap, &long(heap, 1, 4097)?), 2);
-        assert_eq!(rt; verdict(heap, &long(heap, 1024, 1025)?), 99);
-        assert_eq!(rt; verdict(heap, &long(heap, 1025, 1026)?), 12);
+        assert_eq!(rt; verdict(heap, &long(heap, 1, 4096)?), None);
+        assert_eq!(rt; verdict(heap, &long(heap, 1, 4097)?), Some(2));
+        assert_eq!(rt; verdict(heap, &long(heap, 1024, 1025)?), None);
+        assert_eq!(rt; verdict(heap, &long(heap, 1025, 1026)?), Some(12));
         let mut unknown = long(heap, 1, 4097)?;
         unknown.truncate(5 + 9 * 4096);
         unknown.extend_from_slice(&[9, 0, 0, 0, 0, 0, 0, 0, 0])?;
-        assert_eq!(rt; verdict(heap, &unknown), 1);
+        assert_eq!(rt; verdict(heap, &unknown), Some(1));
         Ok(())
     }
 

@@ -1,8 +1,8 @@
 -- Judging lines one after the other: a step and the end of each loop.
-use Rattle.std.proofs.Common.{◌≡◌, ℕ, ◌+◌, ◌<◌, ◌≤◌, Bool, true, false, ◌||◌, List, length, get_or, drop, sym, refl, ap, ◌∙◌, ap₂, arith}
+use Rattle.std.proofs.Common.{◌≡◌, ℕ, ◌+◌, ◌<◌, ◌≤◌, Bool, true, false, ◌||◌, List, length, get_or, drop, sym, ap, ◌∙◌, ap₂, arith}
 use Rattle.std.proofs.lemmas.List.{at_drop_more, at_drop_all}
 use Rattle.sheets.specs.Lines.{made}
-use Rattle.sheets.specs.Reading.{undefined, any_undefined, is_input, inputs}
+use Rattle.sheets.specs.Reading.{undefined, any_undefined}
 use Rattle.std.specs.List.{list_any}
 use Rattle.sheets.specs.declared.line.Line.{Line}
 use Rattle.sheets.specs.declared.line.Line.TheVariants.{Input, Sum, Times, Product, Open}
@@ -44,24 +44,3 @@ made_at_most (Open a) k = omega arith
 
 pub made_within : (l : Line) (k k' i : ℕ) → k' ≡ made l k → k ≤ i → k' ≤ i + 1
 made_within l k k' i e le = omega (arith, made_at_most l k)
-
-inputs_step : (xs : List Line) (i : ℕ) (d : Line) → i < length xs → inputs (drop i xs) ≡ is_input (get_or xs i d) + inputs (drop (i + 1) xs)
-unfolding inputs
-inputs_step xs i d lt = at_drop_more inputs xs i d lt
-
-pub inputs_hit : (d : Line) (xs : List Line) (i w : ℕ) → i < length xs → get_or xs i d ≡ Input w → inputs (drop i xs) ≡ 1 + inputs (drop (i + 1) xs)
-inputs_hit d xs i w lt e = inputs_step xs i d lt ∙ ap (λ (l : Line). is_input l + inputs (drop (i + 1) xs)) e
-
-none : (l : Line) → ((w : ℕ) → l ≡ Input w → ⊥) → is_input l ≡ 0
-none (Input w) no' = absurd (no' w refl)
-none (Sum a e) no' = refl
-none (Times k a) no' = refl
-none (Product a e) no' = refl
-none (Open a) no' = refl
-
-pub inputs_miss : (d : Line) (xs : List Line) (i : ℕ) → i < length xs → ((w : ℕ) → get_or xs i d ≡ Input w → ⊥) → inputs (drop i xs) ≡ inputs (drop (i + 1) xs)
-inputs_miss d xs i lt no' = omega (arith, inputs_step xs i d lt, none (get_or xs i d) no')
-
-pub inputs_all : (xs : List Line) (i : ℕ) → length xs ≤ i → inputs (drop i xs) ≡ 0
-unfolding inputs
-inputs_all xs i le = at_drop_all inputs xs i le

@@ -1,4 +1,3 @@
-pub mod Parts
 pub mod Judged
 pub mod Verdicts
 pub mod Appended

@@ -1,25 +1,18 @@
--- What the lines left need, one line after the other.
-use Rattle.std.proofs.Common.{◌≡◌, ℕ, ◌+◌, ◌<◌, ◌≤◌, Bool, true, false, cond, List, length, get_or, drop, arith}
-use Rattle.std.proofs.lemmas.List.{at_drop_more, at_drop_all}
+-- What lines need, as the sums that they are.
+use Rattle.std.proofs.Common.{◌≡◌, ℕ, ◌≤◌, Bool, true, false, cond, List, refl, arith}
+use Rattle.std.specs.List.{sum_by}
+use Rattle.std.proofs.lemmas.List.Recursion.{is_sum_by}
 use Rattle.shares.specs.Circle.{Circle}
 use Rattle.sheets.specs.Lines.{gives, deals, figures_needed, coins_needed}
 use Rattle.sheets.specs.declared.line.Line.{Line}
 
-pub figures_more : (i : ℕ) (xs : List Line) (k : ℕ) (d : Line) (a r all : ℕ) → k < length xs → r ≡ cond (gives (get_or xs k d) i) 1 0 → a + figures_needed i (drop k xs) ≡ all → a + r + figures_needed i (drop (k + 1) xs) ≡ all
+pub figures_are : (i : ℕ) (xs : List Line) → figures_needed i xs ≡ sum_by (λ l. cond (gives l i) 1 0) xs
 unfolding figures_needed
-figures_more i xs k d a r all lt is so = omega (arith, at_drop_more (figures_needed i) xs k d lt)
+figures_are i xs = is_sum_by (figures_needed i) (λ l. cond (gives l i) 1 0) refl (λ _ _. refl) xs
 
-pub figures_all : (i : ℕ) (xs : List Line) (k : ℕ) → length xs ≤ k → figures_needed i (drop k xs) ≡ 0
-unfolding figures_needed
-figures_all i xs k le = at_drop_all (figures_needed i) xs k le
-
-pub coins_more : (z : Circle) (i : ℕ) (xs : List Line) (k : ℕ) (d : Line) (a r all : ℕ) → k < length xs → r ≡ cond (deals z (get_or xs k d) i) z.t 0 → a + coins_needed z i (drop k xs) ≡ all → a + r + coins_needed z i (drop (k + 1) xs) ≡ all
+pub coins_are : (z : Circle) (i : ℕ) (xs : List Line) → coins_needed z i xs ≡ sum_by (λ l. cond (deals z l i) z.t 0) xs
 unfolding coins_needed
-coins_more z i xs k d a r all lt is so = omega (arith, at_drop_more (coins_needed z i) xs k d lt)
-
-pub coins_all : (z : Circle) (i : ℕ) (xs : List Line) (k : ℕ) → length xs ≤ k → coins_needed z i (drop k xs) ≡ 0
-unfolding coins_needed
-coins_all z i xs k le = at_drop_all (coins_needed z i) xs k le
+coins_are z i xs = is_sum_by (coins_needed z i) (λ l. cond (deals z l i) z.t 0) refl (λ _ _. refl) xs
 
 pub at_most : (b : Bool) (r t : ℕ) → r ≡ cond b t 0 → r ≤ t
 at_most true r t e = omega arith

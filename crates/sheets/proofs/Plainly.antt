@@ -92,6 +92,6 @@ unfolding good
 at_line n lines first l ls figures values opened h = (both_parts (good_line n (length values) l) (good n (made l (length values)) ls) h.well).0
 
 -- the line at the head of what is left
-pub at_here : (n : ℕ) (lines : List Line) (first : List (List ℕ)) (i : ℕ) (figures : List (List ℕ)) (values opened : List ℕ) → i < length lines →
-    At n lines first (drop i lines) figures values opened → At n lines first (get_or lines i (Input 0) ∷ drop (i + 1) lines) figures values opened
-at_here n lines first i figures values opened lt h = subst (λ (rest : List Line). At n lines first rest figures values opened) (drop_more lines i (Input 0) lt) h
+pub at_here : (n : ℕ) (lines : List Line) (first : List (List ℕ)) (items : List Line) (i : ℕ) (figures : List (List ℕ)) (values opened : List ℕ) → i < length items →
+    At n lines first (drop i items) figures values opened → At n lines first (get_or items i (Input 0) ∷ drop (i + 1) items) figures values opened
+at_here n lines first items i figures values opened lt h = subst (λ (rest : List Line). At n lines first rest figures values opened) (drop_more items i (Input 0) lt) h

@@ -43,7 +43,6 @@ well-formed (Open a) = refl
 
 -- the parts of written lines are their bytes
 parts_back : (ls : List Line) → nines (length ls) (flat_map line_bytes ls) ≡ map line_bytes ls
-unfolding nines
 parts_back [] = refl
 parts_back (Input w ∷ ls) = ap (λ (xs : List (List ℕ)). line_bytes (Input w) ∷ xs) (parts_back ls)
 parts_back (Sum a e ∷ ls) = ap (λ (xs : List (List ℕ)). line_bytes (Sum a e) ∷ xs) (parts_back ls)
@@ -185,7 +184,6 @@ part_back xs len bytes ok =
     kind_back kind (first_of xs) (second_of xs) (eqb-false kind 0 kindly.0) (ltb-false 5 kind kindly.1) (second_zero kind (second_of xs) parts.1) ∙ nine_back xs len bytes
 
 parts_rewritten : (count : ℕ) (bs : List ℕ) → length bs ≡ 9 * count → All (λ b. b < 256) bs → list_any malformed (nines count bs) ≡ false → flat_map line_bytes (map line_of (nines count bs)) ≡ bs
-unfolding nines
 parts_rewritten zero bs len bytes ok = sym (nil_from_length bs (omega arith))
 parts_rewritten (suc count) bs len bytes ok =
     let h = or_parts (malformed (take 9 bs)) (list_any malformed (nines count (drop 9 bs))) ok in

@@ -1,5 +1,5 @@
 -- What follows from a verdict, and how the reader comes to one.
-use Rattle.std.proofs.Common.{◌≡◌, ℕ, zero, suc, ◌+◌, ◌-◌, ◌*◌, ◌<◌, ◌≤◌, Bool, true, false, cond, not, ◌||◌, T, eqb, ltb, List, [], ◌∷◌, map, length, get_or, take, drop, Some, None, Option, sym, refl, ap, ◌∙◌, ap₂, arith}
+use Rattle.std.proofs.Common.{◌≡◌, ℕ, zero, suc, ◌+◌, ◌-◌, ◌*◌, ◌/◌, ◌<◌, ◌≤◌, Bool, true, false, cond, not, ◌||◌, T, eqb, ltb, List, [], ◌∷◌, map, length, get_or, take, drop, Some, None, Option, sym, refl, ap, ◌∙◌, ap₂, arith}
 use Rattle.std.proofs.lemmas.List.{take_rest, length-drop}
 use Rattle.std.proofs.lemmas.Bool.{or_parts, eq-eqb, eqb-false, ltb-false, and_from}
 use Rattle.std.proofs.lemmas.Bool.Decides.{nat_tests}
@@ -44,6 +44,10 @@ framed_verdict bs count h =
     ∙ ap₂ (λ (n : ℕ) (xs : List (List ℕ)). by_tests (list_any malformed xs) (bad_shape (members_of bs) (threshold_of bs) n) (verdict_on (members_of bs) (map line_of xs)))
     (sym counted) (sym (parts_of_tail bs count counted))
 
+-- the tail cut into parts of nine, which are as many as are counted
+pub all_parts : (bs : List ℕ) (count : ℕ) → Framed bs count → {parts : List (List ℕ)} → parts ≡ nines (length (tail_of bs) / 9) (tail_of bs) → parts ≡ nines count (tail_of bs)
+all_parts bs count h e = e ∙ ap (λ (k : ℕ). nines k (tail_of bs)) (omega (arith, h.long))
+
 pub verdict-malformed : (bs : List ℕ) (count : ℕ) → Framed bs count → list_any malformed (nines count (tail_of bs)) ≡ true → verdict bs ≡ Some Malformed
 verdict-malformed bs count h e =
     framed_verdict bs count h
@@ -62,7 +66,6 @@ verdict_lines bs count h e f lines same =
     ∙ ap (verdict_on (members_of bs)) (sym same))
 
 pub length-nines : (count : ℕ) (bs : List ℕ) → length (nines count bs) ≡ count
-unfolding nines
 length-nines zero bs = refl
 length-nines (suc k) bs = ap suc (length-nines k (drop 9 bs))
 

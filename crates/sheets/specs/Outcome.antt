@@ -1,20 +1,19 @@
 -- What the readers of sheets answer.
-use Rattle.std.specs.Prelude.{◌≡◌, ℕ, true, false, T, ◌⊎◌, List, [], ◌++◌, map, Some, None, Ok, Err, vec_items, Result, Vec}
+use Rattle.std.specs.Prelude.{◌≡◌, ℕ, true, false, ◌⊎◌, List, ◌++◌, map, Some, None, Ok, Err, vec_items, Result, Vec}
 use Rattle.field.specs.Field.{all_below}
 use Rattle.std.specs.declared.alloc.Global.{Global}
 use Rattle.sheets.specs.Families.{of}
-use Rattle.sheets.specs.Lines.{good}
 use Rattle.sheets.specs.Meaning.{has_figure, have_figures, figures_after, plain_made, plain_opened, result}
-use Rattle.sheets.specs.Reading.{malformed, line_of, nines, verdict, members_of, threshold_of, lines_of}
+use Rattle.sheets.specs.Reading.{malformed, line_of, verdict, members_of, threshold_of, lines_of}
 use Rattle.std.specs.List.{list_any}
 use Rattle.sheets.specs.declared.line.Line.{Line}
 use Rattle.sheets.specs.declared.refusal.Refusal.{Refusal}
 use Rattle.sheets.specs.declared.refusal.Refusal.TheVariants.{NoMemory, Malformed, OutOfRange, NoFigure}
 use Rattle.sheets.specs.declared.sheet.Sheet.{Sheet}
 
-abbrev pub LinesAs : ℕ → List ℕ → Result (Vec Line Global) Refusal → Type 0
-LinesAs count bs (Ok lines) = (list_any malformed (nines count bs) ≡ false) × (vec_items lines ≡ map line_of (nines count bs))
-LinesAs count bs (Err e) = (e ≡ NoMemory) ⊎ ((e ≡ Malformed) × (list_any malformed (nines count bs) ≡ true))
+abbrev pub LinesAs : List (List ℕ) → Result (Vec Line Global) Refusal → Type 0
+LinesAs parts (Ok lines) = (list_any malformed parts ≡ false) × (vec_items lines ≡ map line_of parts)
+LinesAs parts (Err e) = (e ≡ NoMemory) ⊎ ((e ≡ Malformed) × (list_any malformed parts ≡ true))
 
 -- a sheet holds the members, the threshold and the lines that its bytes say
 pub record Holds (s : Sheet) (n t : ℕ) (lines : List Line) : Type 0 where
@@ -42,18 +41,6 @@ pub record Worked (l : Line) (figures figures' : List (List ℕ)) (values values
 abbrev pub WorkedAs : Line → List (List ℕ) → List (List ℕ) → List ℕ → List ℕ → List ℕ → List ℕ → Result (Unit {0}) Refusal → Type 0
 WorkedAs l figures figures' values values' opened opened' (Ok u) = Worked l figures figures' values values' opened opened'
 WorkedAs l figures figures' values values' opened opened' (Err e) = (e ≡ NoMemory) ⊎ ((e ≡ NoFigure) × (has_figure l (of figures) ≡ false))
-
--- good lines, figures below p, and nothing made or opened yet
-pub record Ready (ls : List Line) (figures : List (List ℕ)) (values opened : List ℕ) : Type 0 where
-  pub members : ℕ
-  pub well : T (good members 0 ls)
-  pub small : all_below figures ≡ true
-  pub unmade : values ≡ []
-  pub unopened : opened ≡ []
-
-abbrev pub OpenedAs : List Line → List (List ℕ) → List ℕ → Result (Unit {0}) Refusal → Type 0
-OpenedAs ls figures opened (Ok u) = (have_figures ls (of figures) ≡ true) × (opened ≡ result ls (of figures))
-OpenedAs ls figures opened (Err e) = (e ≡ NoMemory) ⊎ ((e ≡ NoFigure) × (have_figures ls (of figures) ≡ false))
 
 -- what a sheet's lines open of figures below p, or which figure is wrong or wanting
 abbrev pub ResultAs : List Line → List (List ℕ) → Result (Vec ℕ Global) Refusal → Type 0

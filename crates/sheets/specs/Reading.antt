@@ -1,6 +1,7 @@
 -- What is read in the bytes of a sheet: the sheet, or the lowest of its faults.
-use Rattle.std.specs.Prelude.{ℕ, zero, suc, ◌+◌, ◌*◌, Bool, false, cond, not, ◌&&◌, ◌||◌, List, [], ◌∷◌, map, length, take, drop, Some, None, Option, ◌==◌, nat_le, nat_lt, slice_index}
+use Rattle.std.specs.Prelude.{ℕ, ◌+◌, ◌*◌, Bool, true, false, cond, not, ◌&&◌, ◌||◌, List, [], ◌∷◌, map, length, drop, Some, None, Option, ◌==◌, nat_le, nat_lt, slice_index, count_by}
 use Rattle.std.specs.List.{list_any}
+use Rattle.std.specs.Simd.{first_chunks}
 use Rattle.field.specs.Field.{p}
 use Rattle.sheets.specs.Bytes.{word_at}
 use Rattle.sheets.specs.Lines.{made}
@@ -34,9 +35,8 @@ line_of nine =
     (Open (first_of nine)))))
 
 -- so many parts of nine bytes
-unfoldable pub nines : ℕ → List ℕ → List (List ℕ)
-nines zero bs = []
-nines (suc k) bs = take 9 bs ∷ nines k (drop 9 bs)
+abbrev pub nines : ℕ → List ℕ → List (List ℕ)
+nines = first_chunks 9
 
 -- the parts of a sheet's bytes
 abbrev pub members_of : List ℕ → ℕ
@@ -83,16 +83,15 @@ any_undefined k [] = false
 any_undefined k (l ∷ ls) = undefined k l || any_undefined (made l k) ls
 
 -- 12: more than 1024 input lines
-abbrev pub is_input : Line → ℕ
-is_input (Input w) = 1
-is_input (Sum a e) = 0
-is_input (Times k a) = 0
-is_input (Product a e) = 0
-is_input (Open a) = 0
+abbrev pub is_input : Line → Bool
+is_input (Input w) = true
+is_input (Sum a e) = false
+is_input (Times k a) = false
+is_input (Product a e) = false
+is_input (Open a) = false
 
-unfoldable pub inputs : List Line → ℕ
-inputs [] = 0
-inputs (l ∷ ls) = is_input l + inputs ls
+abbrev pub inputs : List Line → ℕ
+inputs = count_by is_input
 
 -- what is wrong with lines under n members, the lowest first
 abbrev pub verdict_on : ℕ → List Line → Option Refusal

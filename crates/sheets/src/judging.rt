@@ -1,7 +1,7 @@
 // What may be wrong with lines that are well formed.
-ghost use Rattle.std.specs.Prelude.{◌≡◌, ◌+◌, ◌<◌, ◌≤◌, length};
-ghost use Rattle.sheets.specs.Reading.{any_undefined, bad_shape, out_of_range, inputs as inputs_of, verdict_on};
+ghost use Rattle.std.specs.Prelude.{◌≡◌, ◌+◌, ◌<◌, ◌≤◌, length, None, Some, MatchResult, count_by};
 ghost use Rattle.std.specs.List.{list_any};
+ghost use Rattle.sheets.specs.Reading.{any_undefined, bad_shape, is_input, out_of_range, verdict_on};
 
 use crate::line::Line;
 use crate::refusal::Refusal;
@@ -14,31 +14,26 @@ pub(crate) fn is_bad_shape(n: u8, t: u8, count: usize) -> bool
 }
 
 // What is wrong with lines for n members, the lowest number first.
-pub(crate) fn judge(n: u32, lines: &[Line]) -> Option<Refusal>
+pub(crate) fn judge(n: u32, lines: &[Line]) -> Result<(), Refusal>
     requires { length lines.now < 65536 }
-    ensures { result ≡ verdict_on n lines.now }
+    ensures { MatchResult result (λ _. verdict_on n lines.now ≡ None) (λ e. verdict_on n lines.now ≡ Some e) }
 {
     if names_no_member(n, lines) {
-        return Some(Refusal::OutOfRange);
+        return Err(Refusal::OutOfRange);
     }
     if names_no_value(lines) {
-        return Some(Refusal::NotMadeYet);
+        return Err(Refusal::NotMadeYet);
     }
     if inputs(lines) > 1024 {
-        return Some(Refusal::TooManyInputs);
+        return Err(Refusal::TooManyInputs);
     }
-    None
+    Ok(())
 }
 
 fn names_no_member(n: u32, lines: &[Line]) -> bool
     ensures { result ≡ list_any (out_of_range n) lines.now }
 {
-    for line in lines {
-        if line.is_out_of_range(n) {
-            return true;
-        }
-    }
-    false
+    lines.iter().any(|line| line.is_out_of_range(n))
 }
 
 fn names_no_value(lines: &[Line]) -> bool
@@ -56,13 +51,7 @@ fn names_no_value(lines: &[Line]) -> bool
 }
 
 fn inputs(lines: &[Line]) -> usize
-    ensures { result ≡ inputs_of lines.now }
+    ensures { result ≡ count_by is_input lines.now }
 {
-    let mut count = 0;
-    for line in lines {
-        if let Line::Input(_) = line {
-            count += 1;
-        }
-    }
-    count
+    lines.iter().filter(|line| line.is_input()).count()
 }

@@ -1,7 +1,7 @@
 // A line of a sheet.
 ghost use Rattle.std.specs.Prelude.{◌≡◌, ◌<◌, length, if◌then◌else◌, Some, None};
 ghost use Rattle.sheets.specs.Lines.{made as made_by, gives, deals_in};
-ghost use Rattle.sheets.specs.Reading.{malformed, line_of, out_of_range, undefined as undefined_at};
+ghost use Rattle.sheets.specs.Reading.{malformed, line_of, out_of_range, undefined as undefined_at, is_input as is_input_line};
 
 // One of the five kinds. Each but `Open` makes the next value; values are numbered from 0.
 #[derive(Clone, Copy, PartialEq, Eq, Debug)]
@@ -23,9 +23,10 @@ impl Line {
     pub(crate) fn read(bytes: &[u8; 9]) -> Option<Line>
         ensures { result ≡ (if malformed bytes.now then None else Some (line_of bytes.now)) }
     {
-        let first = u32::from_be_bytes([bytes[1], bytes[2], bytes[3], bytes[4]]);
-        let second = u32::from_be_bytes([bytes[5], bytes[6], bytes[7], bytes[8]]);
-        match bytes[0] {
+        let [kind, a, b, c, d, e, f, g, h] = *bytes;
+        let first = u32::from_be_bytes([a, b, c, d]);
+        let second = u32::from_be_bytes([e, f, g, h]);
+        match kind {
             1 if second == 0 => Some(Line::Input(first)),
             2 => Some(Line::Sum(first, second)),
             3 => Some(Line::Times(first, second)),
@@ -56,6 +57,12 @@ impl Line {
             Line::Sum(a, b) | Line::Product(a, b) => a >= made || b >= made,
             Line::Times(_, a) | Line::Open(a) => a >= made,
         }
+    }
+
+    pub(crate) fn is_input(self) -> bool
+        ensures { result ≡ is_input_line self }
+    {
+        matches!(self, Line::Input(_))
     }
 
     // How many values there are after it, if there were `made` before.

@@ -31,23 +31,16 @@ impl Sheet {
     pub fn figures_needed(&self, member: u32) -> usize
         ensures { result ≡ figures_needed member (lines_in self.now) }
     {
-        let mut needed = 0;
-        for line in self.lines.as_slice() {
-            needed += line.figures_of(member);
-        }
-        needed
+        self.lines.iter().map(|line| line.figures_of(member)).sum()
     }
 
     // How many coins a member draws.
     pub fn coins_needed(&self, member: u32) -> usize
         ensures { result ≡ coins_needed (circle_of self.now) member (lines_in self.now) }
     {
-        let n = self.n;
-        let t = self.t;
-        let mut needed = 0;
-        for line in self.lines.as_slice() {
-            needed += line.coins_of(n, t, member);
-        }
-        needed
+        self.lines
+            .iter()
+            .map(|line| line.coins_of(self.n, self.t, member))
+            .sum()
     }
 }

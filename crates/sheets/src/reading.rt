@@ -1,5 +1,4 @@
 // Reading a sheet from its bytes.
-ghost use Rattle.std.specs.Prelude.{◌≡◌, ◌*◌, length};
 ghost use Rattle.sheets.specs.Outcome.{ReadAs, LinesAs};
 
 use crate::judging::{is_bad_shape, judge};
@@ -20,44 +19,30 @@ impl Sheet {
         if rest.len() != 9 * count {
             return Err(Refusal::Malformed);
         }
-        let lines = match lines_of(heap, count, rest) {
-            Ok(lines) => lines,
-            Err(refusal) => return Err(refusal),
-        };
+        let (parts, _) = rest.as_chunks::<9>();
+        let lines = lines_of(heap, parts)?;
         if is_bad_shape(*n, *t, count) {
             return Err(Refusal::BadShape);
         }
-        match judge(*n as u32, &lines) {
-            Some(refusal) => Err(refusal),
-            None => Ok(Sheet {
-                n: *n as usize,
-                t: *t as usize,
-                lines,
-            }),
-        }
+        judge(*n as u32, &lines)?;
+        Ok(Sheet {
+            n: *n as usize,
+            t: *t as usize,
+            lines,
+        })
     }
 }
 
-// The lines in so many parts of nine bytes each, or none if one is malformed.
-fn lines_of(heap: Global, count: usize, bytes: &[u8]) -> Result<Vec<Line>, Refusal>
-    requires { length bytes.now ≡ 9 * count }
-    ensures { LinesAs count bytes.now result }
+// The lines in parts of nine bytes each, or none if one is malformed.
+fn lines_of(heap: Global, parts: &[[u8; 9]]) -> Result<Vec<Line>, Refusal>
+    ensures { LinesAs parts.now result }
 {
-    let Ok(mut lines) = Vec::with_capacity(heap, count) else {
-        return Err(Refusal::NoMemory);
-    };
-    let mut rest = bytes;
-    for _ in 0..count {
-        let Some((nine, tail)) = rest.split_first_chunk::<9>() else {
-            return Err(Refusal::Malformed);
-        };
+    let mut lines = Vec::with_capacity(heap, parts.len())?;
+    for nine in parts {
         let Some(line) = Line::read(nine) else {
             return Err(Refusal::Malformed);
         };
-        let Ok(()) = lines.push(line) else {
-            return Err(Refusal::NoMemory);
-        };
-        rest = tail;
+        lines.push(line)?;
     }
     Ok(lines)
 }

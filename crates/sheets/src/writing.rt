@@ -37,9 +37,7 @@ impl Sheet {
         ensures { AppendedBy (sheet_bytes self.now.n self.now.t self.now.lines.items) out.old.items out.new.items result }
     {
         let count = self.lines.len();
-        let Ok(()) = out.reserve(5 + 9 * count) else {
-            return Err(Refusal::NoMemory);
-        };
+        out.reserve(5 + 9 * count)?;
         append(out, &head(self.n as u8, self.t as u8, count as u16));
         append_lines(out, &self.lines);
         Ok(())

@@ -8,5 +8,5 @@ use Rattle.sheets.proofs.numbers.are_all_below.Goals as goal
 pub returns : goal.returns
 returns g c =
     all_from_yields_List (λ xs. below (g.L.AsSlice.items xs)) _ _ _ c.all.ensures.ran
-        (YieldsList-from_slice c.args.lists.now cc) (λ x b q k. search rules)
+    (YieldsList-from_slice c.args.lists.now cc) (λ x b q k. search rules)
     ∙ sym (list_all-map below g.L.AsSlice.items c.args.lists.now)

@@ -12,7 +12,7 @@ returns c =
     let lines : List Line = vec_items s.lines in
     let front : vec_items c.append.new.out ≡ before ++ head_bytes s.n s.t (length lines) =
     c.append.ensures.items
-    ∙ ap₂ ◌++◌ c.in-Ok.ensures.items (c.head.ensures ∙ ap (head_bytes s.n s.t) (c.len-count.ensures ∙ s.lines.ok.0)) in
+    ∙ ap₂ ◌++◌ c.in_ok-reserve.ensures.items (c.head.ensures ∙ ap (head_bytes s.n s.t) (c.len-count.ensures ∙ s.lines.ok.0)) in
     c.append_lines.ensures
     ∙ (ap₂ (λ (l : List ℕ) (ls : List Line). l ++ flat_map line_bytes ls) front c.deref.ensures.value
     ∙ append_assoc before (head_bytes s.n s.t (length lines)) (flat_map line_bytes lines))
