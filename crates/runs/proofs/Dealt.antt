@@ -1,22 +1,21 @@
 -- One dealing: what was drawn, sent and noted.
-use Rattle.std.proofs.Common.{◌≡◌, ℕ, ◌≤◌, Bool, T, List, ◌++◌, length, take, Ok, Err, Result, sym, ap, ◌∙◌, subst, inl}
+use Rattle.std.proofs.Common.{◌≡◌, ℕ, ◌≤◌, Bool, T, List, ◌++◌, length, take, sym, ap, ◌∙◌, subst}
 use Rattle.field.specs.Field.{below}
 use Rattle.field.proofs.Below.{below-take}
 use Rattle.shares.specs.Circle.{Circle}
 use Rattle.shares.specs.Polynomial.{share_of, dealt}
 use Rattle.sheets.specs.Drawing.{after}
-use Rattle.sheets.specs.declared.refusal.Refusal.{Refusal}
-use Rattle.runs.specs.Row.{row_of, picked, Appended}
-use Rattle.runs.specs.Steps.{Reduced, DealtOut}
+use Rattle.runs.specs.Row.{row_of, picked}
+use Rattle.runs.specs.Steps.{Reduced, Dealing}
 use Rattle.runs.proofs.Inrow.{picked-row, dealt-row}
 
 pub drawn-below : (coins : ℕ → List ℕ) (w t : ℕ) (drawn : List ℕ) → Reduced coins → drawn ≡ take t (coins w) → T (below drawn)
 drawn-below coins w t drawn h e = subst (λ (xs : List ℕ). T (below xs)) (sym e) (below-take t (coins w) (h w))
 
-pub dealt_out : (z : Circle) (c : ℕ → Bool) (w v : ℕ) (coins coins' : ℕ → List ℕ) (seen seen' row drawn : List ℕ) (r : Result (Unit {0}) Refusal) →
+pub dealt_out : (z : Circle) (c : ℕ → Bool) (w v : ℕ) (coins coins' : ℕ → List ℕ) (seen seen' row drawn : List ℕ) →
     z.n ≤ 15 → z.t ≤ length (coins w) → drawn ≡ take z.t (coins w) → coins' ≡ after w z.t coins → row ≡ dealt 15 v drawn →
-    Appended (picked c z.n row) seen seen' r → DealtOut z c w v coins coins' seen seen' row r
-dealt_out z c w v coins coins' seen seen' row drawn (Ok u) few enough is moved sent noted =
+    seen' ≡ seen ++ picked c z.n row → Dealing z c w v coins coins' seen seen' row
+dealt_out z c w v coins coins' seen seen' row drawn few enough is moved sent noted =
     let row_is : row ≡ row_of (share_of v (take z.t (coins w))) = sent ∙ (ap (dealt 15 v) is ∙ dealt-row v (take z.t (coins w))) in
     record {
       enough = enough;
@@ -24,4 +23,3 @@ dealt_out z c w v coins coins' seen seen' row drawn (Ok u) few enough is moved s
       sent = row_is;
       noted = noted ∙ ap (λ (xs : List ℕ). seen ++ xs) (picked-row c z.n (share_of v (take z.t (coins w))) row few row_is);
     }
-dealt_out z c w v coins coins' seen seen' row drawn (Err e) few enough is moved sent noted = inl noted

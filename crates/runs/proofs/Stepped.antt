@@ -16,7 +16,7 @@ use Rattle.sheets.specs.declared.refusal.Refusal.{Refusal}
 use Rattle.runs.specs.Row.{row_of}
 use Rattle.runs.specs.Run.{State, share}
 use Rattle.runs.specs.Short.{short_at}
-use Rattle.runs.specs.Steps.{in_state, Entered, Producing, ShownAs, KeptAs, DoneAs}
+use Rattle.runs.specs.Steps.{in_state, Entered, Producing, ShownAs, Done, DoneAs}
 use Rattle.runs.proofs.Inrow.{at_place, row_from}
 
 -- rows that hold functions of members, read at a place
@@ -49,7 +49,7 @@ module _ (n k : ℕ) (l : Line) (t : T (good_line n k l)) where
   pub good_open : (a : ℕ) → l ≡ Open a → a < k
   good_open a e = ltb→lt a k (subst (λ (x : Line). T (good_line n k x)) e t)
 
-module _ (z : Circle) (c : ℕ → Bool) (values : List (ℕ → ℕ)) (rows rows' : List (List ℕ)) (figures coins : ℕ → List ℕ) (shown seen : List ℕ) (r : Result (Unit {0}) Refusal) (holds : rows ≡ map row_of values) where
+module _ (z : Circle) (c : ℕ → Bool) (values : List (ℕ → ℕ)) (rows rows' : List (List ℕ)) (figures coins : ℕ → List ℕ) (shown seen : List ℕ) (holds : rows ≡ map row_of values) where
   abbrev s : State
   s = in_state values figures coins
 
@@ -60,75 +60,63 @@ module _ (z : Circle) (c : ℕ → Bool) (values : List (ℕ → ℕ)) (rows row
   held_same : rows ≡ map row_of (values ++ [])
   held_same = holds ∙ ap (map row_of) (sym (append-nil values))
 
-  done_input_at : (w : ℕ) (figures' coins' : ℕ → List ℕ) (seen' row : List ℕ) (r : Result (Unit {0}) Refusal) → Entered z c w figures figures' coins coins' seen seen' row → KeptAs row rows rows' r → DoneAs z c (Input w) s rows' figures' coins' shown shown seen seen' r
-  done_input_at w figures' coins' seen' row (Ok u) h k = record {
-    enough = h.enough;
-    held = held_more row (share_of (get_or (figures w) 0 0) (take z.t (coins w))) h.sent k;
-    taken = h.taken;
-    moved = h.moved;
-    opens = sym (append-nil shown);
-    noted = h.noted;
-  }
-  done_input_at w figures' coins' seen' row (Err e) h k = inl k
-
-  pub done_input : (l : Line) (w : ℕ) → l ≡ Input w → (figures' coins' : ℕ → List ℕ) (seen' row : List ℕ) → Entered z c w figures figures' coins coins' seen seen' row → KeptAs row rows rows' r → DoneAs z c l s rows' figures' coins' shown shown seen seen' r
+  pub done_input : (l : Line) (w : ℕ) → l ≡ Input w → (figures' coins' : ℕ → List ℕ) (seen' row : List ℕ) → Entered z c w figures figures' coins coins' seen seen' row → rows' ≡ rows ++ row ∷ [] → Done z c l s rows' figures' coins' shown shown seen seen'
   done_input l w is figures' coins' seen' row h k =
-      subst (λ (l : Line). DoneAs z c l s rows' figures' coins' shown shown seen seen' r) (sym is) (done_input_at w figures' coins' seen' row r h k)
-
-  done_sum_at : (a b : ℕ) (row : List ℕ) (r : Result (Unit {0}) Refusal) → row ≡ row_of (λ j. share s a j ⊕ share s b j) → KeptAs row rows rows' r → DoneAs z c (Sum a b) s rows' figures coins shown shown seen seen r
-  done_sum_at a b row (Ok u) e k = record {
-    enough = refl;
-    held = held_more row (λ j. share s a j ⊕ share s b j) e k;
-    taken = refl;
-    moved = refl;
-    opens = sym (append-nil shown);
-    noted = sym (append-nil seen);
-  }
-  done_sum_at a b row (Err x) e k = inl k
+      subst (λ (l : Line). Done z c l s rows' figures' coins' shown shown seen seen') (sym is)
+      (record {
+        enough = h.enough;
+        held = held_more row (share_of (get_or (figures w) 0 0) (take z.t (coins w))) h.sent k;
+        taken = h.taken;
+        moved = h.moved;
+        opens = sym (append-nil shown);
+        noted = h.noted;
+      })
 
   pub done_sum : (l : Line) (a b : ℕ) → l ≡ Sum a b → (x y row : List ℕ) → a < length rows → b < length rows → x ≡ get_or rows a x → y ≡ get_or rows b y → length row ≡ 15 →
-      ((k : ℕ) → k < 15 → get_or row k 0 ≡ get_or x k 0 ⊕ get_or y k 0) → KeptAs row rows rows' r → DoneAs z c l s rows' figures coins shown shown seen seen r
+      ((k : ℕ) → k < 15 → get_or row k 0 ≡ get_or x k 0 ⊕ get_or y k 0) → rows' ≡ rows ++ row ∷ [] → Done z c l s rows' figures coins shown shown seen seen
   done_sum l a b is x y row la lb ex ey len each k =
       let f : ℕ → ℕ = share s a in
       let g : ℕ → ℕ = share s b in
       let e : row ≡ row_of (λ j. f j ⊕ g j) =
       row_from (λ j. f j ⊕ g j) row len (λ i lt. each i lt
       ∙ ap₂ (λ (u v : ℕ). u ⊕ v) (at_place f x i lt (row_read rows values a x holds la ex)) (at_place g y i lt (row_read rows values b y holds lb ey))) in
-      subst (λ (l : Line). DoneAs z c l s rows' figures coins shown shown seen seen r) (sym is) (done_sum_at a b row r e k)
-
-  done_times_at : (factor a : ℕ) (row : List ℕ) (r : Result (Unit {0}) Refusal) → row ≡ row_of (λ j. factor ⊗ share s a j) → KeptAs row rows rows' r → DoneAs z c (Times factor a) s rows' figures coins shown shown seen seen r
-  done_times_at factor a row (Ok u) e k = record {
-    enough = refl;
-    held = held_more row (λ j. factor ⊗ share s a j) e k;
-    taken = refl;
-    moved = refl;
-    opens = sym (append-nil shown);
-    noted = sym (append-nil seen);
-  }
-  done_times_at factor a row (Err x) e k = inl k
+      subst (λ (l : Line). Done z c l s rows' figures coins shown shown seen seen) (sym is)
+      (record {
+        enough = refl;
+        held = held_more row (λ j. f j ⊕ g j) e k;
+        taken = refl;
+        moved = refl;
+        opens = sym (append-nil shown);
+        noted = sym (append-nil seen);
+      })
 
   pub done_times : (l : Line) (factor a : ℕ) → l ≡ Times factor a → (x row : List ℕ) → a < length rows → x ≡ get_or rows a x → length row ≡ 15 →
-      ((k : ℕ) → k < 15 → get_or row k 0 ≡ factor ⊗ get_or x k 0) → KeptAs row rows rows' r → DoneAs z c l s rows' figures coins shown shown seen seen r
+      ((k : ℕ) → k < 15 → get_or row k 0 ≡ factor ⊗ get_or x k 0) → rows' ≡ rows ++ row ∷ [] → Done z c l s rows' figures coins shown shown seen seen
   done_times l factor a is x row la ex len each k =
       let f : ℕ → ℕ = share s a in
       let e : row ≡ row_of (λ j. factor ⊗ f j) =
       row_from (λ j. factor ⊗ f j) row len (λ i lt. each i lt ∙ ap (λ (u : ℕ). factor ⊗ u) (at_place f x i lt (row_read rows values a x holds la ex))) in
-      subst (λ (l : Line). DoneAs z c l s rows' figures coins shown shown seen seen r) (sym is) (done_times_at factor a row r e k)
+      subst (λ (l : Line). Done z c l s rows' figures coins shown shown seen seen) (sym is)
+      (record {
+        enough = refl;
+        held = held_more row (λ j. factor ⊗ f j) e k;
+        taken = refl;
+        moved = refl;
+        opens = sym (append-nil shown);
+        noted = sym (append-nil seen);
+      })
 
-  done_product_at : (a b : ℕ) (coins' : ℕ → List ℕ) (seen' row : List ℕ) (r : Result (Unit {0}) Refusal) → Producing z c (share s a) (share s b) coins coins' seen seen' row → KeptAs row rows rows' r → DoneAs z c (Product a b) s rows' figures coins' shown shown seen seen' r
-  done_product_at a b coins' seen' row (Ok u) h k = record {
-    enough = h.enough;
-    held = held_more row _ h.made k;
-    taken = refl;
-    moved = h.moved;
-    opens = sym (append-nil shown);
-    noted = h.noted ∙ simp append-nil;
-  }
-  done_product_at a b coins' seen' row (Err x) h k = inl k
-
-  pub done_product : (l : Line) (a b : ℕ) → l ≡ Product a b → (coins' : ℕ → List ℕ) (seen' row : List ℕ) → Producing z c (share s a) (share s b) coins coins' seen seen' row → KeptAs row rows rows' r → DoneAs z c l s rows' figures coins' shown shown seen seen' r
+  pub done_product : (l : Line) (a b : ℕ) → l ≡ Product a b → (coins' : ℕ → List ℕ) (seen' row : List ℕ) → Producing z c (share s a) (share s b) coins coins' seen seen' row → rows' ≡ rows ++ row ∷ [] → Done z c l s rows' figures coins' shown shown seen seen'
   done_product l a b is coins' seen' row h k =
-      subst (λ (l : Line). DoneAs z c l s rows' figures coins' shown shown seen seen' r) (sym is) (done_product_at a b coins' seen' row r h k)
+      subst (λ (l : Line). Done z c l s rows' figures coins' shown shown seen seen') (sym is)
+      (record {
+        enough = h.enough;
+        held = held_more row _ h.made k;
+        taken = refl;
+        moved = h.moved;
+        opens = sym (append-nil shown);
+        noted = h.noted ∙ simp append-nil;
+      })
 
   done_open_at : (a : ℕ) (shown' seen' : List ℕ) (r : Result (Unit {0}) Refusal) → ShownAs z (share s a) shown shown' seen seen' r → DoneAs z c (Open a) s rows figures coins shown shown' seen seen' r
   done_open_at a shown' seen' (Ok u) h = record {
@@ -141,8 +129,8 @@ module _ (z : Circle) (c : ℕ → Bool) (values : List (ℕ → ℕ)) (rows row
   }
   done_open_at a shown' seen' (Err x) h = inl h
 
-  pub done_open : (l : Line) (a : ℕ) → l ≡ Open a → (shown' seen' : List ℕ) → ShownAs z (share s a) shown shown' seen seen' r → DoneAs z c l s rows figures coins shown shown' seen seen' r
-  done_open l a is shown' seen' h =
+  pub done_open : (l : Line) (a : ℕ) → l ≡ Open a → (shown' seen' : List ℕ) (r : Result (Unit {0}) Refusal) → ShownAs z (share s a) shown shown' seen seen' r → DoneAs z c l s rows figures coins shown shown' seen seen' r
+  done_open l a is shown' seen' r h =
       subst (λ (l : Line). DoneAs z c l s rows figures coins shown shown' seen seen' r) (sym is) (done_open_at a shown' seen' r h)
 
 -- what is shown of a row

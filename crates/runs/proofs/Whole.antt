@@ -21,13 +21,12 @@ all_reduced : (lists : List (List ℕ)) → true ≡ all_below lists → Reduced
 all_reduced lists e = reduced-from lists (subst (λ (b : Bool). T b) e tt)
 
 module _ (z : Circle) (ls : List Line) (figures coins : List (Bor (List ℕ))) (fits : Fits z) (g : T (good z.n 0 ls)) (hf : true ≡ all_below (family figures)) (hc : true ≡ all_below (family coins)) where
-  pub given : (z' : Circle) (ls' : List Line) (figures' coins' : List (Bor (List ℕ))) → z' ≡ z → ls' ≡ ls → figures' ≡ figures → coins' ≡ coins → length ls ≤ 4096 → Given z' ls' (of (family figures')) (of (family coins'))
-  given z' ls' figures' coins' ez el ef ec le =
-      subst (λ (x : Circle). Given x ls' (of (family figures')) (of (family coins'))) (sym ez)
-      (subst (λ (x : List Line). Given z x (of (family figures')) (of (family coins'))) (sym el)
-      (subst (λ (x : List (Bor (List ℕ))). Given z ls (of (family x)) (of (family coins'))) (sym ef)
+  pub given : (z' : Circle) (ls' : List Line) (coins' : List (Bor (List ℕ))) → z' ≡ z → ls' ≡ ls → coins' ≡ coins → length ls ≤ 4096 → Given z' ls' (of (family figures)) (of (family coins'))
+  given z' ls' coins' ez el ec le =
+      subst (λ (x : Circle). Given x ls' (of (family figures)) (of (family coins'))) (sym ez)
+      (subst (λ (x : List Line). Given z x (of (family figures)) (of (family coins'))) (sym el)
       (subst (λ (x : List (Bor (List ℕ))). Given z ls (of (family figures)) (of (family x))) (sym ec)
-      (record { well = g; short = le; figures_small = all_reduced (family figures) hf; coins_small = all_reduced (family coins) hc }))))
+      (record { well = g; short = le; figures_small = all_reduced (family figures) hf; coins_small = all_reduced (family coins) hc })))
 
   ran_at : (c : ℕ → Bool) (r : Result Outcome Refusal) → AllDoneAs z c ls (of (family figures)) (of (family coins)) r → RunAs z c ls (of (family figures)) (of (family coins)) r
   ran_at c (Ok o) h =
@@ -46,12 +45,11 @@ module _ (z : Circle) (ls : List Line) (figures coins : List (Bor (List ℕ))) (
   ran_at c (Err e) (inl x) = inl x
   ran_at c (Err e) (inr x) = inr (inr ((all_reduced (family figures) hf, all_reduced (family coins) hc), x))
 
-  pub ran : (c c' : ℕ → Bool) (r : Result Outcome Refusal) (z' : Circle) (ls' : List Line) (figures' coins' : List (Bor (List ℕ))) → c' ≡ c → z' ≡ z → ls' ≡ ls → figures' ≡ figures → coins' ≡ coins →
-      AllDoneAs z' c' ls' (of (family figures')) (of (family coins')) r → RunAs z c ls (of (family figures)) (of (family coins)) r
-  ran c c' r z' ls' figures' coins' ew ez el ef ec h =
+  pub ran : (c c' : ℕ → Bool) (r : Result Outcome Refusal) (z' : Circle) (ls' : List Line) (coins' : List (Bor (List ℕ))) → c' ≡ c → z' ≡ z → ls' ≡ ls → coins' ≡ coins →
+      AllDoneAs z' c' ls' (of (family figures)) (of (family coins')) r → RunAs z c ls (of (family figures)) (of (family coins)) r
+  ran c c' r z' ls' coins' ew ez el ec h =
       ran_at c r
       (subst (λ (x : List (Bor (List ℕ))). AllDoneAs z c ls (of (family figures)) (of (family x)) r) ec
-      (subst (λ (x : List (Bor (List ℕ))). AllDoneAs z c ls (of (family x)) (of (family coins')) r) ef
-      (subst (λ (x : List Line). AllDoneAs z c x (of (family figures')) (of (family coins')) r) el
-      (subst (λ (x : Circle). AllDoneAs x c ls' (of (family figures')) (of (family coins')) r) ez
-      (subst (λ (x : ℕ → Bool). AllDoneAs z' x ls' (of (family figures')) (of (family coins')) r) ew h)))))
+      (subst (λ (x : List Line). AllDoneAs z c x (of (family figures)) (of (family coins')) r) el
+      (subst (λ (x : Circle). AllDoneAs x c ls' (of (family figures)) (of (family coins')) r) ez
+      (subst (λ (x : ℕ → Bool). AllDoneAs z' x ls' (of (family figures)) (of (family coins')) r) ew h))))

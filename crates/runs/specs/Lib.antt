@@ -8,3 +8,4 @@ pub mod Setups
 pub mod Short
 pub mod Steps
 pub mod Outcome
+pub mod Progress

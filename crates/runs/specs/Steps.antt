@@ -46,9 +46,9 @@ pub record Dealing (z : Circle) (c : ℕ → Bool) (w v : ℕ) (coins coins' : �
   pub sent : row ≡ row_of (share_of v (take z.t (coins w)))
   pub noted : seen' ≡ seen ++ map (share_of v (take z.t (coins w))) (watched_in z c)
 
-abbrev pub DealtOut : Circle → (ℕ → Bool) → ℕ → ℕ → (ℕ → List ℕ) → (ℕ → List ℕ) → List ℕ → List ℕ → List ℕ → Result (Unit {0}) Refusal → Type 0
-DealtOut z c w v coins coins' seen seen' row (Ok u) = Dealing z c w v coins coins' seen seen' row
-DealtOut z c w v coins coins' seen seen' row (Err e) = (e ≡ NoMemory) ⊎ ((e ≡ NoCoins) × (length (coins w) < z.t))
+abbrev pub DealtOut : Circle → (ℕ → Bool) → ℕ → ℕ → (ℕ → List ℕ) → (ℕ → List ℕ) → List ℕ → List ℕ → Result (List ℕ) Refusal → Type 0
+DealtOut z c w v coins coins' seen seen' (Ok row) = Dealing z c w v coins coins' seen seen' row
+DealtOut z c w v coins coins' seen seen' (Err e) = (e ≡ NoMemory) ⊎ ((e ≡ NoCoins) × (length (coins w) < z.t))
 
 -- member w puts in a figure
 pub record Entered (z : Circle) (c : ℕ → Bool) (w : ℕ) (figures figures' coins coins' : ℕ → List ℕ) (seen seen' row : List ℕ) : Type 0 where
@@ -91,11 +91,6 @@ abbrev pub ShownAs : Circle → (ℕ → ℕ) → List ℕ → List ℕ → List
 ShownAs z f opened opened' seen seen' (Ok u) =
     (opened' ≡ opened ++ joined (m z) (map f (members z.n)) ∷ []) × (seen' ≡ seen ++ map f (members z.n))
 ShownAs z f opened opened' seen seen' (Err e) = e ≡ NoMemory
-
--- a row is added, if memory is found
-abbrev pub KeptAs : List ℕ → List (List ℕ) → List (List ℕ) → Result (Unit {0}) Refusal → Type 0
-KeptAs row before after (Ok u) = after ≡ before ++ row ∷ []
-KeptAs row before after (Err e) = e ≡ NoMemory
 
 -- what a line asks of the rows held and the lists left
 pub record Ready (z : Circle) (l : Line) (rows : List (List ℕ)) (figures coins : ℕ → List ℕ) : Type 0 where

@@ -1,62 +1,59 @@
-// Doing one line of a sheet.
+// A run, line by line.
 ghost use Rattle.std.specs.Prelude.{◌≡◌, ℕ, List, map};
+ghost use Rattle.runs.specs.Progress.{StartedAs};
 ghost use Rattle.runs.specs.Row.{row_of};
 ghost use Rattle.runs.specs.Setups.{circle_in};
-ghost use Rattle.runs.specs.Steps.{in_state, KeptAs, Ready, DoneAs};
+ghost use Rattle.runs.specs.Steps.{in_state, Ready, DoneAs};
 ghost use Rattle.runs.specs.Watching.{watches};
 ghost use Rattle.sheets.specs.Families.{family, of};
 
-use crate::inputs::put_in;
-use crate::opening::show;
-use crate::products::multiply;
+use crate::progress::Progress;
 use crate::row::{multiple, sum};
 use crate::setup::Setup;
 use sheets::{Line, Refusal};
+use std::alloc::Global;
 
-pub fn do_line(
-    setup: &Setup,
-    line: Line,
-    figures: &mut [&[u32]],
-    coins: &mut [&[u32]],
-    held: &mut Vec<[u32; 15]>,
-    opened: &mut Vec<u32>,
-    seen: &mut Vec<u32>,
-) -> Result<(), Refusal>
-    requires { Ready (circle_in setup.now) line held.old.items (of (family figures.old)) (of (family coins.old)) }
-    ensures { (values : List (ℕ → ℕ)) → held.old.items ≡ map row_of values → DoneAs (circle_in setup.now) (watches setup.now.watched) line (in_state values (of (family figures.old)) (of (family coins.old))) held.new.items (of (family figures.new)) (of (family coins.new)) opened.old.items opened.new.items seen.old.items seen.new.items result }
-{
-    match line {
-        Line::Input(member) => match put_in(setup, member, figures, coins, seen) {
-            Ok(row) => keep(held, row),
-            Err(refusal) => Err(refusal),
-        },
-        Line::Sum(a, b) => {
-            let row = sum(&held[a as usize], &held[b as usize]);
-            keep(held, row)
-        }
-        Line::Times(factor, a) => {
-            let row = multiple(factor, &held[a as usize]);
-            keep(held, row)
-        }
-        Line::Product(a, b) => match multiply(
-            setup,
-            &held[a as usize],
-            &held[b as usize],
-            coins,
-            seen,
-        ) {
-            Ok(row) => keep(held, row),
-            Err(refusal) => Err(refusal),
-        },
-        Line::Open(a) => show(setup, &held[a as usize], opened, seen),
+impl<'a> Progress<'a> {
+    // A run before its first line, with room for what so many lines make and for so many words seen.
+    pub fn new(
+        heap: Global,
+        figures: &[&'a [u32]],
+        lines: usize,
+        words: usize,
+    ) -> Result<Progress<'a>, Refusal>
+        ensures { StartedAs (family figures.now) result }
+    {
+        Ok(Progress {
+            figures: Vec::from_slice(heap, figures)?,
+            held: Vec::with_capacity(heap, lines)?,
+            opened: Vec::with_capacity(heap, lines)?,
+            seen: Vec::with_capacity(heap, words)?,
+        })
     }
-}
 
-fn keep(held: &mut Vec<[u32; 15]>, row: [u32; 15]) -> Result<(), Refusal>
-    ensures { KeptAs row held.old.items held.new.items result }
-{
-    match held.push(row) {
-        Ok(()) => Ok(()),
-        Err(_) => Err(Refusal::NoMemory),
+    pub fn do_line(
+        &mut self,
+        setup: &Setup,
+        line: Line,
+        coins: &mut [&[u32]],
+    ) -> Result<(), Refusal>
+        requires { Ready (circle_in setup.now) line self.old.held.items (of (family self.old.figures.items)) (of (family coins.old)) }
+        ensures { (values : List (ℕ → ℕ)) → self.old.held.items ≡ map row_of values → DoneAs (circle_in setup.now) (watches setup.now.watched) line (in_state values (of (family self.old.figures.items)) (of (family coins.old))) self.new.held.items (of (family self.new.figures.items)) (of (family coins.new)) self.old.opened.items self.new.opened.items self.old.seen.items self.new.seen.items result }
+    {
+        let row = match line {
+            Line::Input(member) => setup.put_in(member, &mut self.figures, coins, &mut self.seen)?,
+            Line::Sum(a, b) => sum(&self.held[a as usize], &self.held[b as usize]),
+            Line::Times(factor, a) => multiple(factor, &self.held[a as usize]),
+            Line::Product(a, b) => {
+                let (a, b) = (&self.held[a as usize], &self.held[b as usize]);
+                setup.multiply(a, b, coins, &mut self.seen)?
+            }
+            Line::Open(a) => {
+                let row = &self.held[a as usize];
+                return setup.show(row, &mut self.opened, &mut self.seen);
+            }
+        };
+        self.held.push(row)?;
+        Ok(())
     }
 }

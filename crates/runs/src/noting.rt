@@ -6,101 +6,71 @@ ghost use Rattle.runs.specs.Steps.{CoinsNoted, AllCoinsNoted};
 ghost use Rattle.runs.specs.Watching.{watches};
 ghost use Rattle.sheets.specs.Families.{family, of};
 
+use crate::member_lists::list_of;
+use crate::row::Row;
 use crate::setup::Setup;
 use sheets::Refusal;
 
-pub(crate) fn note(seen: &mut Vec<u32>, words: &[u32]) -> Result<(), Refusal>
-    ensures { Appended words.now seen.old.items seen.new.items result }
-{
-    match seen.extend_from_slice(words) {
-        Ok(()) => Ok(()),
-        Err(_) => Err(Refusal::NoMemory),
+impl Setup {
+    fn is_watched(&self, member: u32) -> bool
+        ensures { result ≡ watches self.now.watched member }
+    {
+        0 < member && member <= 15 && self.watched[member as usize - 1]
     }
-}
 
-// What a member alone knows, if it is watched.
-pub(crate) fn note_own(
-    seen: &mut Vec<u32>,
-    setup: &Setup,
-    member: u32,
-    words: &[u32],
-) -> Result<(), Refusal>
-    ensures { Appended (if watches setup.now.watched member then words.now else []) seen.old.items seen.new.items result }
-{
-    if is_watched(setup, member) {
-        note(seen, words)
-    } else {
+    // What a member alone knows, if it is watched.
+    pub(crate) fn note_own(
+        &self,
+        member: u32,
+        words: &[u32],
+        seen: &mut Vec<u32>,
+    ) -> Result<(), Refusal>
+        ensures { Appended (if watches self.now.watched member then words.now else []) seen.old.items seen.new.items result }
+    {
+        if self.is_watched(member) {
+            seen.extend_from_slice(words)?;
+        }
         Ok(())
     }
-}
 
-fn is_watched(setup: &Setup, member: u32) -> bool
-    ensures { result ≡ watches setup.now.watched member }
-{
-    if member == 0 || member > 15 {
-        return false;
-    }
-    setup.watched[member as usize - 1]
-}
-
-// The shares in a row that go to the watched.
-pub(crate) fn note_shares(
-    seen: &mut Vec<u32>,
-    setup: &Setup,
-    row: &[u32; 15],
-) -> Result<(), Refusal>
-    ensures { Appended (picked (watches setup.now.watched) setup.now.n row.now) seen.old.items seen.new.items result }
-{
-    for k in 0..setup.n {
-        if setup.watched[k] {
-            let Ok(()) = seen.push(row[k]) else {
-                return Err(Refusal::NoMemory);
-            };
+    // The shares in a row that go to the watched.
+    pub(crate) fn note_shares(&self, row: &Row, seen: &mut Vec<u32>) -> Result<(), Refusal>
+        ensures { Appended (picked (watches self.now.watched) self.now.n row.now) seen.old.items seen.new.items result }
+    {
+        for (share, watched) in row.iter().zip(&self.watched[..self.n]) {
+            if *watched {
+                seen.push(*share)?;
+            }
         }
+        Ok(())
     }
-    Ok(())
-}
 
-// The coins that a member is about to draw.
-pub(crate) fn note_coins(
-    seen: &mut Vec<u32>,
-    setup: &Setup,
-    member: u32,
-    coins: &[&[u32]],
-) -> Result<(), Refusal>
-    ensures { CoinsNoted (circle_in setup.now) (watches setup.now.watched) member (of (family coins.now)) seen.old.items seen.new.items result }
-{
-    let list = list_of(coins, member);
-    let t = setup.t;
-    if list.len() < t {
-        return Err(Refusal::NoCoins);
+    // The coins that a member is about to draw.
+    pub(crate) fn note_coins(
+        &self,
+        member: u32,
+        coins: &[&[u32]],
+        seen: &mut Vec<u32>,
+    ) -> Result<(), Refusal>
+        ensures { CoinsNoted (circle_in self.now) (watches self.now.watched) member (of (family coins.now)) seen.old.items seen.new.items result }
+    {
+        let Some((drawn, _)) = list_of(coins, member).split_at_checked(self.t) else {
+            return Err(Refusal::NoCoins);
+        };
+        self.note_own(member, drawn, seen)
     }
-    note_own(seen, setup, member, &list[..t])
-}
 
-// A member's list, which is empty for who has none.
-pub fn list_of<'a>(lists: &[&'a [u32]], member: u32) -> &'a [u32]
-    ensures { result.now ≡ of (family lists.now) member }
-{
-    if member == 0 || member as usize > lists.len() {
-        return &[];
-    }
-    lists[member as usize - 1]
-}
-
-// The coins that all members are about to draw.
-pub(crate) fn note_all_coins(
-    seen: &mut Vec<u32>,
-    setup: &Setup,
-    coins: &[&[u32]],
-) -> Result<(), Refusal>
-    ensures { AllCoinsNoted (circle_in setup.now) (watches setup.now.watched) (of (family coins.now)) seen.old.items seen.new.items result }
-{
-    for k in 0..setup.n {
-        match note_coins(seen, setup, k as u32 + 1, coins) {
-            Ok(()) => {}
-            Err(refusal) => return Err(refusal),
+    // The coins that all members are about to draw.
+    pub(crate) fn note_all_coins(
+        &self,
+        coins: &[&[u32]],
+        seen: &mut Vec<u32>,
+    ) -> Result<(), Refusal>
+        ensures { AllCoinsNoted (circle_in self.now) (watches self.now.watched) (of (family coins.now)) seen.old.items seen.new.items result }
+    {
+        for k in 0..self.n {
+            self.note_coins(k as u32 + 1, coins, seen)?;
         }
+        Ok(())
     }
-    Ok(())
 }

@@ -6,18 +6,20 @@ ghost use Rattle.sheets.specs.Sheets.{circle_of};
 use crate::setup::Setup;
 use sheets::Sheet;
 
-// The weights are made once for all lines.
-pub fn set_up(sheet: &Sheet, watched: &[bool; 15]) -> Setup
-    ensures { (circle_in result ≡ circle_of sheet.now) × (result.watched ≡ watched.now) }
-{
-    let n = sheet.members();
-    let t = sheet.threshold();
-    let mut weights = [0; 15];
-    shares::fill_weights(&mut weights[..t + t + 1]);
-    Setup {
-        n,
-        t,
-        weights,
-        watched: *watched,
+impl Setup {
+    // The weights are made once for all lines.
+    pub fn new(sheet: &Sheet, watched: &[bool; 15]) -> Setup
+        ensures { (circle_in result ≡ circle_of sheet.now) × (result.watched ≡ watched.now) }
+    {
+        let n = sheet.members();
+        let t = sheet.threshold();
+        let mut weights = [0; 15];
+        shares::fill_weights(&mut weights[..t + t + 1]);
+        Setup {
+            n,
+            t,
+            weights,
+            watched: *watched,
+        }
     }
 }

@@ -5,9 +5,8 @@ ghost use Rattle.runs.specs.Watching.{watches};
 ghost use Rattle.sheets.specs.Families.{family, of};
 ghost use Rattle.sheets.specs.Sheets.{circle_of, lines_in};
 
-use crate::doing::do_line;
 use crate::outcome::Outcome;
-use crate::preparing::set_up;
+use crate::progress::Progress;
 use crate::setup::Setup;
 use sheets::{Line, Refusal, Sheet, are_all_below};
 use std::alloc::Global;
@@ -26,14 +25,9 @@ pub fn run(
     if !are_all_below(figures) || !are_all_below(coins) {
         return Err(Refusal::OutOfRange);
     }
-    let Ok(mut figures) = Vec::from_slice(heap, figures) else {
-        return Err(Refusal::NoMemory);
-    };
-    let Ok(mut coins) = Vec::from_slice(heap, coins) else {
-        return Err(Refusal::NoMemory);
-    };
-    let setup = set_up(sheet, watched);
-    run_lines(heap, &setup, sheet.lines(), &mut figures, &mut coins)
+    let mut coins = Vec::from_slice(heap, coins)?;
+    let setup = Setup::new(sheet, watched);
+    run_lines(heap, &setup, sheet.lines(), figures, &mut coins)
 }
 
 // At most so many words are seen of a line: at a product 15 times 7 coins and 15 times 15 shares.
@@ -43,33 +37,18 @@ fn run_lines(
     heap: Global,
     setup: &Setup,
     lines: &[Line],
-    figures: &mut [&[u32]],
+    figures: &[&[u32]],
     coins: &mut [&[u32]],
 ) -> Result<Outcome, Refusal>
-    requires { Given (circle_in setup.now) lines.now (of (family figures.old)) (of (family coins.old)) }
-    ensures { AllDoneAs (circle_in setup.now) (watches setup.now.watched) lines.now (of (family figures.old)) (of (family coins.old)) result }
+    requires { Given (circle_in setup.now) lines.now (of (family figures.now)) (of (family coins.old)) }
+    ensures { AllDoneAs (circle_in setup.now) (watches setup.now.watched) lines.now (of (family figures.now)) (of (family coins.old)) result }
 {
-    let Ok(mut held) = Vec::with_capacity(heap, lines.len()) else {
-        return Err(Refusal::NoMemory);
-    };
-    let Ok(mut opened) = Vec::with_capacity(heap, lines.len()) else {
-        return Err(Refusal::NoMemory);
-    };
-    let Ok(mut seen) = Vec::with_capacity(heap, MOST_SEEN * lines.len()) else {
-        return Err(Refusal::NoMemory);
-    };
+    let mut progress = Progress::new(heap, figures, lines.len(), MOST_SEEN * lines.len())?;
     for line in lines {
-        if let Err(refusal) = do_line(
-            setup,
-            *line,
-            figures,
-            coins,
-            &mut held,
-            &mut opened,
-            &mut seen,
-        ) {
-            return Err(refusal);
-        }
+        progress.do_line(setup, *line, coins)?;
     }
-    Ok(Outcome { opened, seen })
+    Ok(Outcome {
+        opened: progress.opened,
+        seen: progress.seen,
+    })
 }

@@ -18,14 +18,14 @@ pub run_lines-requires : goal.run_lines-requires
 run_lines-requires c =
     let sheet = c.args.sheet.now in
     given (circle_of sheet) (lines_in sheet) c.args.figures.now c.args.coins.now (sheet.enough, sheet.few) sheet.well c.if-not-are_all_below.ensures c.if-not-are_all_below-2.ensures
-    (circle_in c.set_up-setup.result) c.lines.result.now c.deref_mut.result.now c.deref_mut-2.result.now
-    c.set_up-setup.ensures.0 c.lines.ensures (c.deref_mut.ensures.value ∙ c.in-Ok.ensures.items) (c.deref_mut-2.ensures.value ∙ c.in-Ok-from_slice.ensures.items) (search rules)
+    (circle_in c.new-setup.result) c.lines.result.now c.deref_mut.result.now
+    c.new-setup.ensures.0 c.lines.ensures (c.deref_mut.ensures.value ∙ c.in_ok-coins.ensures.items) (search rules)
 
 pub returns : goal.returns
 returns c =
     let sheet = c.args.sheet.now in
     ran (circle_of sheet) (lines_in sheet) c.args.figures.now c.args.coins.now (sheet.enough, sheet.few) sheet.well c.if-not-are_all_below.ensures c.if-not-are_all_below-2.ensures
-    (watches c.args.watched.now) (watches c.set_up-setup.result.watched) c.run_lines.result
-    (circle_in c.set_up-setup.result) c.lines.result.now c.deref_mut.result.now c.deref_mut-2.result.now
-    (ap watches c.set_up-setup.ensures.1) c.set_up-setup.ensures.0 c.lines.ensures (c.deref_mut.ensures.value ∙ c.in-Ok.ensures.items) (c.deref_mut-2.ensures.value ∙ c.in-Ok-from_slice.ensures.items)
+    (watches c.args.watched.now) (watches c.new-setup.result.watched) c.run_lines.result
+    (circle_in c.new-setup.result) c.lines.result.now c.deref_mut.result.now
+    (ap watches c.new-setup.ensures.1) c.new-setup.ensures.0 c.lines.ensures (c.deref_mut.ensures.value ∙ c.in_ok-coins.ensures.items)
     c.run_lines.ensures

@@ -1,35 +1,55 @@
-use Rattle.std.proofs.Common.{vec_items, inl, inr}
+use Rattle.std.proofs.Common.{ℕ, List, vec_items, sym, subst, inl, inr}
+use Rattle.std.proofs.lemmas.Result.{err_from_is_err_and}
 use Rattle.sheets.specs.Families.{family, of}
 use Rattle.runs.specs.Setups.{circle_in}
 use Rattle.runs.specs.Watching.{watches}
-use Rattle.runs.proofs.Going.{going_ready, going_short, going_more, going_all}
+use Rattle.runs.proofs.Going.{Going, going_none, going_ready, going_short, going_more, going_all}
 use Rattle.runs.proofs.running.run_lines.Goals as goal
+
+pub loop-line-init : goal.loop-line-init
+loop-line-init c =
+    let z = circle_in c.args.setup.now in
+    let watching = watches c.args.setup.now.watched in
+    let F = of (family c.args.figures.now) in
+    let C = of (family c.args.coins.now) in
+    let p = c.in_ok-progress.progress in
+    let started = c.in_ok-progress.ensures in
+    subst (λ (xs : List (List ℕ)). Going z watching c.args.lines.now F C 0 (vec_items p.held) (of xs) C (vec_items p.opened) (vec_items p.seen)) (sym started.whole)
+    (going_none z watching c.args.lines.now F C (vec_items p.held) (vec_items p.opened) (vec_items p.seen) started.unmade started.unopened started.unseen
+    c.requires.well c.requires.figures_small c.requires.coins_small)
 
 pub do_line-requires : goal.do_line-requires
 do_line-requires c =
+    let p = c.loop-line.progress in
     going_ready (circle_in c.args.setup.now) (watches c.args.setup.now.watched) c.args.lines.now (of (family c.args.figures.now)) (of (family c.args.coins.now))
-    c.loop-line.line-index _ (vec_items c.loop-line.held) (of (family c.loop-line.figures)) (of (family c.loop-line.coins)) (vec_items c.loop-line.opened) (vec_items c.loop-line.seen)
+    c.loop-line.line-index _ (vec_items p.held) (of (family (vec_items p.figures))) (of (family c.loop-line.coins)) (vec_items p.opened) (vec_items p.seen)
     c.loop-line-test.true c.loop-line.invariant
 
-pub returns-in-Err : goal.returns-in-Err
-returns-in-Err c =
-    elim (c.in-Err.ensures c.loop-line.invariant.values c.loop-line.invariant.holds) [
+pub returns-in_err-do_line : goal.returns-in_err-do_line
+returns-in_err-do_line c =
+    let p = c.loop-line.progress in
+    let q = err_from_is_err_and c.from_residual-in_err-do_line.result c.from_residual-in_err-do_line.ensures.1 in
+    rw (q.1, q.2)
+    (elim (c.in_err-do_line.ensures c.loop-line.invariant.values c.loop-line.invariant.holds) [
       | inl e ↦ inl e
       | inr h ↦ inr (going_short (circle_in c.args.setup.now) (watches c.args.setup.now.watched) c.args.lines.now (of (family c.args.figures.now)) (of (family c.args.coins.now))
-          c.loop-line.line-index _ (vec_items c.loop-line.held) (of (family c.loop-line.figures)) (of (family c.loop-line.coins)) (vec_items c.loop-line.opened) (vec_items c.loop-line.seen)
-          c.loop-line-test.true c.loop-line.invariant c.in-Err.refusal h)
-    ]
+          c.loop-line.line-index _ (vec_items p.held) (of (family (vec_items p.figures))) (of (family c.loop-line.coins)) (vec_items p.opened) (vec_items p.seen)
+          c.loop-line-test.true c.loop-line.invariant c.in_err-do_line.field-0.0 h)
+    ])
 
 pub loop-line-preserved : goal.loop-line-preserved
 loop-line-preserved c =
+    let p = c.loop-line.progress in
+    let q = c.do_line.new.self in
     going_more (circle_in c.args.setup.now) (watches c.args.setup.now.watched) c.args.lines.now (of (family c.args.figures.now)) (of (family c.args.coins.now))
-    c.loop-line.line-index _ (vec_items c.loop-line.held) (of (family c.loop-line.figures)) (of (family c.loop-line.coins)) (vec_items c.loop-line.opened) (vec_items c.loop-line.seen)
+    c.loop-line.line-index _ (vec_items p.held) (of (family (vec_items p.figures))) (of (family c.loop-line.coins)) (vec_items p.opened) (vec_items p.seen)
     c.loop-line-test.true c.loop-line.invariant
-    (vec_items c.do_line.new.held) (of (family c.do_line.new.figures)) (of (family c.do_line.new.coins)) (vec_items c.do_line.new.opened) (vec_items c.do_line.new.seen)
-    (c.in_default-do_line.ensures c.loop-line.invariant.values c.loop-line.invariant.holds)
+    (vec_items q.held) (of (family (vec_items q.figures))) (of (family c.do_line.new.coins)) (vec_items q.opened) (vec_items q.seen)
+    (c.in_ok-do_line.ensures c.loop-line.invariant.values c.loop-line.invariant.holds)
 
 pub returns : goal.returns
 returns c =
+    let p = c.loop-line.progress in
     going_all (circle_in c.args.setup.now) (watches c.args.setup.now.watched) c.args.lines.now (of (family c.args.figures.now)) (of (family c.args.coins.now))
-    c.loop-line.line-index (vec_items c.loop-line.held) (of (family c.loop-line.figures)) (of (family c.loop-line.coins)) (vec_items c.loop-line.opened) (vec_items c.loop-line.seen)
+    c.loop-line.line-index (vec_items p.held) (of (family (vec_items p.figures))) (of (family c.loop-line.coins)) (vec_items p.opened) (vec_items p.seen)
     c.loop-line-test.false c.loop-line.invariant

@@ -7,5 +7,5 @@ use Rattle.runs.proofs.running.run_lines.Given as goal
 
 abbrev pub invariant-loop-line : goal.invariant-loop-line
 invariant-loop-line l =
-    Going (circle_in l.setup) (watches l.setup.watched) l.lines (of (family l.initial.figures)) (of (family l.initial.coins))
-    l.line-index (vec_items l.held) (of (family l.figures)) (of (family l.coins)) (vec_items l.opened) (vec_items l.seen)
+    Going (circle_in l.setup) (watches l.setup.watched) l.lines (of (family l.figures)) (of (family l.initial.coins))
+    l.line-index (vec_items l.progress.held) (of (family (vec_items l.progress.figures))) (of (family l.coins)) (vec_items l.progress.opened) (vec_items l.progress.seen)

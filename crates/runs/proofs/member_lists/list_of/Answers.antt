@@ -1,7 +1,7 @@
 use Rattle.std.proofs.Common.{sym, refl, inl, inr}
 use Rattle.sheets.proofs.Drawn.{of_nobody, of_slice}
-use Rattle.runs.proofs.noting.list_of.Goals as goal
-use Rattle.runs.proofs.noting.list_of.Goals.{then-member-eq0-via-then-member-eq0, then-member-eq0-via-else-member-eq0+then-member-lists}
+use Rattle.runs.proofs.member_lists.list_of.Goals as goal
+use Rattle.runs.proofs.member_lists.list_of.Goals.{then-member-eq0-via-then-member-eq0, then-member-eq0-via-else-member-eq0+then-member-lists}
 
 pub returns-then-member-eq0 : goal.returns-then-member-eq0
 returns-then-member-eq0 c =

@@ -3,8 +3,8 @@ use Rattle.sheets.specs.Families.{family, of}
 use Rattle.runs.specs.Setups.{circle_in}
 use Rattle.runs.specs.Watching.{watches}
 use Rattle.runs.proofs.Coins.{Noted}
-use Rattle.runs.proofs.noting.note_all_coins.Given as goal
+use Rattle.runs.proofs.setup.Setup.note_all_coins.Given as goal
 
 abbrev pub invariant-loop-k : goal.invariant-loop-k
 invariant-loop-k l =
-    Noted (circle_in l.setup) (watches l.setup.watched) (of (family l.coins)) (vec_items l.initial.seen) l.k (vec_items l.seen)
+    Noted (circle_in l.self) (watches l.self.watched) (of (family l.coins)) (vec_items l.initial.seen) l.k (vec_items l.seen)
