@@ -49,7 +49,7 @@ shifted_places d (k ∷ g) (c ∷ cs) [] len le h = absurd (omega arith)
 shifted_places d (k ∷ g) (c ∷ cs) (x ∷ draw) len le h =
     ap₂ (λ (y : ℕ) (ys : List ℕ). y ∷ ys) (h 0 (omega arith)) (shifted_places d g cs draw (omega arith) (omega arith) (λ i lt. h (suc i) (omega arith)))
 
-counted : (b : Bool) (t count : ℕ) → T b → count ≡ cond b t 0 → count - 0 ≡ t
+counted : (b : Bool) (t count : ℕ) → T b → count ≡ cond b t 0 → count ≡ t
 counted true t count d e = omega arith
 counted false t count d e = absurd d
 
@@ -72,12 +72,12 @@ module _ (z : Circle) (mask : List ℕ) (l : Line) (s s' : State) where
   pub draw_is : (i d less more count : ℕ) (list draw : List ℕ) → z.t ≤ 7 → length mask ≡ 8 → length draw ≡ 7 →
       (T (deals z l (i + 1)) → z.t ≤ length list) → count ≡ cond (deals z l (i + 1)) z.t 0 → list ≡ s.coins (i + 1) →
       less ≡ secret l s (i + 1) → more ≡ secret l s' (i + 1) → d ≡ more ⊕ neg less →
-      ((j : ℕ) → j < length (take (count - 0) list) → get_or draw j 0 ≡ get_or (take (count - 0) list) j 0 ⊕ d ⊗ get_or mask (j + 1) 0) → Draw i draw
+      ((j : ℕ) → j < length (take count list) → get_or draw j 0 ≡ get_or (take count list) j 0 ⊕ d ⊗ get_or mask (j + 1) 0) → Draw i draw
   draw_is i d less more count list draw few eight seven enough counts is low high diff each deal =
       let t : ℕ = z.t in
       let cs : List ℕ = take t list in
       let g : List ℕ = higher z mask in
-      let all : count - 0 ≡ t = counted (deals z l (i + 1)) t count deal counts in
+      let all : count ≡ t = counted (deals z l (i + 1)) t count deal counts in
       let long : length cs ≡ t = length-take-le t list (enough deal) in
       let wide : length g ≡ t = length-take-le t (drop 1 mask) (simp length-drop (omega arith)) in
       let at : (j : ℕ) → j < t → get_or g j 0 ≡ get_or mask (j + 1) 0 = λ j lt.

@@ -28,6 +28,15 @@ partly_more before more now after k x lt is e h = record {
   same = λ j le. ap (λ (l : List (List ℕ)). get_or l j []) is ∙ (get_or-set_other now k j x [] (λ q. omega (arith, q)) ∙ h.same j (omega arith));
 }
 
+-- a list past the end of what is to be appended
+pub partly_past : (before more now : List (List ℕ)) (k : ℕ) → length more ≤ k → Partly before more now k → Partly before more now (k + 1)
+partly_past before more now k le h = record {
+  as_many = h.as_many;
+  grown = below_more (λ j. get_or now j [] ≡ get_or before j [] ++ get_or more j []) k h.grown
+      (h.same k (omega arith) ∙ (sym (append-nil (get_or before k [])) ∙ ap (λ (l : List ℕ). get_or before k [] ++ l) (sym (get_or_past more k [] le))));
+  same = λ j le. h.same j (omega arith);
+}
+
 pub partly_all : (before more now : List (List ℕ)) (k : ℕ) → min (length before) (length more) ≤ k → Partly before more now k → Grown before more now
 partly_all before more now k le h = record {
   as_many = h.as_many;

@@ -52,20 +52,18 @@ module _ (z : Circle) (fits : Fits z) (c : ℕ → Bool) (ls : List Line) (C : L
       }
   coupled_at g (Err e) is h = h
 
--- the call, with the copies that it makes
-module _ (z : Circle) (fits : Fits z) (c : ℕ → Bool) (ls : List Line) (coins figures figures' : List (Bor (List ℕ))) (given : Given z ls (of (family coins)) (of (family figures)) (of (family figures')))
-    (z₁ : Circle) (ls₁ : List Line) (coins₁ figures₁ figures'₁ : List (Bor (List ℕ))) (ez : z₁ ≡ z) (el : ls₁ ≡ ls) (ec : coins₁ ≡ coins) (ef : figures₁ ≡ figures) (ef' : figures'₁ ≡ figures') where
-  moved : (P : Circle → List Line → List (Bor (List ℕ)) → List (Bor (List ℕ)) → List (Bor (List ℕ)) → Type 0) → P z₁ ls₁ coins₁ figures₁ figures'₁ → P z ls coins figures figures'
+-- the call, with the copy of the coins that it makes
+module _ (z : Circle) (fits : Fits z) (c : ℕ → Bool) (ls : List Line) (coins : List (Bor (List ℕ))) (F F' : ℕ → List ℕ) (given : Given z ls (of (family coins)) F F')
+    (z₁ : Circle) (ls₁ : List Line) (coins₁ : List (Bor (List ℕ))) (ez : z₁ ≡ z) (el : ls₁ ≡ ls) (ec : coins₁ ≡ coins) where
+  moved : (P : Circle → List Line → List (Bor (List ℕ)) → Type 0) → P z₁ ls₁ coins₁ → P z ls coins
   moved P h =
-      subst (λ (x : List (Bor (List ℕ))). P z ls coins figures x) ef'
-      (subst (λ (x : List (Bor (List ℕ))). P z ls coins x figures'₁) ef
-      (subst (λ (x : List (Bor (List ℕ))). P z ls x figures₁ figures'₁) ec
-      (subst (λ (x : List Line). P z x coins₁ figures₁ figures'₁) el
-      (subst (λ (x : Circle). P x ls₁ coins₁ figures₁ figures'₁) ez h))))
+      subst (λ (x : List (Bor (List ℕ))). P z ls x) ec
+      (subst (λ (x : List Line). P z x coins₁) el
+      (subst (λ (x : Circle). P x ls₁ coins₁) ez h))
 
   pub coupled : (places : List ℕ) (r : Result Couple Refusal) → length places ≡ 8 → z.t ≤ 7 → Holds places (mask (filter c (members z₁.n))) →
-      LinesAs z₁ (higher z₁ places) ls₁ (family coins₁) (of (family figures₁)) (of (family figures'₁)) r → CoupledAs z c ls (of (family coins)) (of (family figures)) (of (family figures')) r
+      LinesAs z₁ (higher z₁ places) ls₁ (family coins₁) F F' r → CoupledAs z c ls (of (family coins)) F F' r
   coupled places r eight few holds h =
       let masked : Holds places (mask (watched_in z c)) = subst (λ (x : Circle). Holds places (mask (filter c (members x.n)))) ez holds in
-      coupled_at z fits c ls (family coins) (of (family figures)) (of (family figures')) given (higher z places) r (higher-is z c places few eight masked)
-      (moved (λ x xs cs fs gs. LinesAs x (higher x places) xs (family cs) (of (family fs)) (of (family gs)) r) h)
+      coupled_at z fits c ls (family coins) F F' given (higher z places) r (higher-is z c places few eight masked)
+      (moved (λ x xs cs. LinesAs x (higher x places) xs (family cs) F F' r) h)

@@ -1,5 +1,5 @@
 -- Both runs of a whole sheet.
-use Rattle.std.specs.Prelude.{◌≡◌, ℕ, Bool, T, List, [], Ok, Err, vec_items, Result}
+use Rattle.std.specs.Prelude.{◌≡◌, ℕ, Bool, T, List, Ok, Err, vec_items, Result}
 use Rattle.shares.specs.Circle.{Circle}
 use Rattle.sheets.specs.Families.{of}
 use Rattle.sheets.specs.Lines.{good}
@@ -12,12 +12,6 @@ use Rattle.runs.specs.Pairing.{paired_coins, there}
 use Rattle.runs.specs.Run.{begun, opens}
 use Rattle.coupling.specs.Growing.{lists}
 use Rattle.coupling.specs.declared.couple.Couple.{Couple}
-use Rattle.coupling.specs.declared.track.Track.{Track}
-
--- nothing is made, opened or seen yet
-abbrev pub StartedAs : Result Track Refusal → Type 0
-StartedAs (Ok t) = (vec_items t.held ≡ []) × (vec_items t.opened ≡ []) × (vec_items t.seen ≡ [])
-StartedAs (Err e) = e ≡ NoMemory
 
 -- a good sheet, and figures and coins that suffice for both runs
 pub record Given (z : Circle) (ls : List Line) (coins figures figures' : ℕ → List ℕ) : Type 0 where

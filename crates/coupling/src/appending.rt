@@ -10,14 +10,9 @@ use std::alloc::Global;
 pub(crate) fn empty_lists(heap: Global, lists: &[&[u32]]) -> Result<Vec<Vec<u32>>, Refusal>
     ensures { EmptyAs (length lists.now) result }
 {
-    let Ok(mut empty) = Vec::with_capacity(heap, lists.len()) else {
-        return Err(Refusal::NoMemory);
-    };
+    let mut empty = Vec::with_capacity(heap, lists.len())?;
     for list in lists {
-        let Ok(one) = Vec::with_capacity(heap, list.len()) else {
-            return Err(Refusal::NoMemory);
-        };
-        empty.push_reserved(one);
+        empty.push(Vec::with_capacity(heap, list.len())?)?;
     }
     Ok(empty)
 }
@@ -26,11 +21,10 @@ pub(crate) fn empty_lists(heap: Global, lists: &[&[u32]]) -> Result<Vec<Vec<u32>
 pub(crate) fn append_each(lists: &mut Vec<Vec<u32>>, more: &[&[u32]]) -> Result<(), Refusal>
     ensures { GrownAs (lists_in lists.old) (family more.now) (lists_in lists.new) result }
 {
-    let count = lists.len().min(more.len());
-    for k in 0..count {
-        let Ok(()) = lists[k].extend_from_slice(more[k]) else {
-            return Err(Refusal::NoMemory);
-        };
+    for (k, list) in lists.iter_mut().enumerate() {
+        if let Some(words) = more.get(k) {
+            list.extend_from_slice(words)?;
+        }
     }
     Ok(())
 }

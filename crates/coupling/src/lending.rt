@@ -16,9 +16,9 @@ pub(crate) fn lend_draws<'a>(
     ensures { LentAs (circle_in setup.now) line draws.now (family result) }
 {
     let mut lent: [&'a [u32]; 15] = [&[]; 15];
-    for i in 0..15 {
+    for (i, list) in lent.iter_mut().enumerate() {
         let count = line.coins_of(setup.n, setup.t, i as u32 + 1);
-        lent[i] = &draws[i][0..count];
+        *list = &draws[i][..count];
     }
     lent
 }

@@ -8,9 +8,8 @@ ghost use Rattle.runs.specs.Watching.{watches};
 
 use crate::appending::{append_each, empty_lists};
 use crate::couple::Couple;
-use crate::stepping::do_both;
-use crate::track::Track;
-use runs::{Setup, set_up};
+use crate::shifter::Shifter;
+use runs::{Progress, Setup};
 use sheets::{Line, Refusal, Sheet};
 use std::alloc::Global;
 
@@ -27,67 +26,38 @@ pub fn run_both(
     requires { Given (circle_of sheet.now) (lines_in sheet.now) (of (family coins.now)) (of (family figures.now)) (of (family other_figures.now)) }
     ensures { CoupledAs (circle_of sheet.now) (watches watched.now) (lines_in sheet.now) (of (family coins.now)) (of (family figures.now)) (of (family other_figures.now)) result }
 {
-    let Ok(mut coins) = Vec::from_slice(heap, coins) else {
-        return Err(Refusal::NoMemory);
-    };
-    let Ok(mut figures) = Vec::from_slice(heap, figures) else {
-        return Err(Refusal::NoMemory);
-    };
-    let Ok(mut other_figures) = Vec::from_slice(heap, other_figures) else {
-        return Err(Refusal::NoMemory);
-    };
-    let setup = set_up(sheet, &[false; 15]);
+    let mut coins = Vec::from_slice(heap, coins)?;
+    let setup = Setup::new(sheet, &[false; 15]);
     let mask = masks::mask(setup.n, watched);
+    let shifter = Shifter { setup, mask };
     run_lines(
         heap,
-        &setup,
-        &mask,
+        &shifter,
         sheet.lines(),
         &mut coins,
-        &mut figures,
-        &mut other_figures,
+        figures,
+        other_figures,
     )
 }
 
 fn run_lines(
     heap: Global,
-    setup: &Setup,
-    mask: &[u32; 8],
+    shifter: &Shifter,
     lines: &[Line],
     coins: &mut [&[u32]],
-    figures: &mut [&[u32]],
-    other_figures: &mut [&[u32]],
+    figures: &[&[u32]],
+    other_figures: &[&[u32]],
 ) -> Result<Couple, Refusal>
-    requires { Given (circle_in setup.now) lines.now (of (family coins.old)) (of (family figures.old)) (of (family other_figures.old)) }
-    ensures { LinesAs (circle_in setup.now) (higher (circle_in setup.now) mask.now) lines.now (family coins.old) (of (family figures.old)) (of (family other_figures.old)) result }
+    requires { Given (circle_in shifter.now.setup) lines.now (of (family coins.old)) (of (family figures.now)) (of (family other_figures.now)) }
+    ensures { LinesAs (circle_in shifter.now.setup) (higher (circle_in shifter.now.setup) shifter.now.mask) lines.now (family coins.old) (of (family figures.now)) (of (family other_figures.now)) result }
 {
-    let Ok(mut first) = Track::new(heap, lines.len()) else {
-        return Err(Refusal::NoMemory);
-    };
-    let Ok(mut second) = Track::new(heap, lines.len()) else {
-        return Err(Refusal::NoMemory);
-    };
-    let Ok(mut paired) = empty_lists(heap, coins) else {
-        return Err(Refusal::NoMemory);
-    };
+    let mut first = Progress::new(heap, figures, lines.len(), 0)?;
+    let mut second = Progress::new(heap, other_figures, lines.len(), 0)?;
+    let mut paired = empty_lists(heap, coins)?;
     for line in lines {
-        if let Err(refusal) = do_both(
-            setup,
-            mask,
-            *line,
-            coins,
-            figures,
-            &mut first,
-            other_figures,
-            &mut second,
-            &mut paired,
-        ) {
-            return Err(refusal);
-        }
+        shifter.do_both(*line, coins, &mut first, &mut second, &mut paired)?;
     }
-    if let Err(refusal) = append_each(&mut paired, coins) {
-        return Err(refusal);
-    }
+    append_each(&mut paired, coins)?;
     Ok(Couple {
         opened: first.opened,
         other_opened: second.opened,

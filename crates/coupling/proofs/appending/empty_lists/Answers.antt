@@ -9,10 +9,10 @@ loop-list-preserved c = (
   search rules,
   search rules,
   λ k.
-      let more : lists c.push_reserved.new.self ≡ lists c.loop-list.empty ++ [] ∷ [] =
-      ap (map vec_items) c.push_reserved.ensures.items
-      ∙ (map_push vec_items (vec_items c.loop-list.empty) c.in-Ok-with_capacity.one
-      ∙ ap (λ (x : List ℕ). lists c.loop-list.empty ++ x ∷ []) c.in-Ok-with_capacity.ensures.items) in
+      let more : lists c.push.new.self ≡ lists c.loop-list.empty ++ [] ∷ [] =
+      ap (map vec_items) c.in_ok-push.ensures.items
+      ∙ (map_push vec_items (vec_items c.loop-list.empty) c.in_ok-with_capacity.field-0
+      ∙ ap (λ (x : List ℕ). lists c.loop-list.empty ++ x ∷ []) c.in_ok-with_capacity.ensures.items) in
       ap (λ (l : List (List ℕ)). get_or l k []) more ∙ empty_more (lists c.loop-list.empty) c.loop-list.invariant.2 k,
 )
 

@@ -6,5 +6,5 @@ use Rattle.coupling.proofs.lending.lend_draws.Given as goal
 
 abbrev pub invariant-loop-i : goal.invariant-loop-i
 invariant-loop-i l =
-    (length l.lent ≡ 15)
-    × ((k : ℕ) → k < l.i → get_or (family l.lent) k [] ≡ take (cond (deals (circle_in l.setup) l.line (k + 1)) l.setup.t 0) (get_or l.draws k []))
+    (length l.list-items ≡ 15)
+    × ((k : ℕ) → k < l.i → get_or (family l.list-items) k [] ≡ take (cond (deals (circle_in l.setup) l.line (k + 1)) l.setup.t 0) (get_or l.draws k []))

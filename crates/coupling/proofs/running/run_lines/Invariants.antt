@@ -8,6 +8,6 @@ use Rattle.coupling.proofs.running.run_lines.Given as goal
 
 abbrev pub invariant-loop-line : goal.invariant-loop-line
 invariant-loop-line l =
-    Beside (circle_in l.setup) (higher (circle_in l.setup) l.mask) l.lines (of (family l.initial.figures)) (of (family l.initial.other_figures)) (of (family l.initial.coins)) (length (family l.initial.coins))
-    (drop l.line-index l.lines) (of (family l.coins)) (of (family l.figures)) (vec_items l.first.held) (vec_items l.first.opened)
-    (of (family l.other_figures)) (vec_items l.second.held) (vec_items l.second.opened) (lists l.paired)
+    Beside (circle_in l.shifter.setup) (higher (circle_in l.shifter.setup) l.shifter.mask) l.lines (of (family l.figures)) (of (family l.other_figures)) (of (family l.initial.coins)) (length (family l.initial.coins))
+    (drop l.line-index l.lines) (of (family l.coins)) (of (family (vec_items l.first.figures))) (vec_items l.first.held) (vec_items l.first.opened)
+    (of (family (vec_items l.second.figures))) (vec_items l.second.held) (vec_items l.second.opened) (lists l.paired)
