@@ -7,7 +7,7 @@ use Rattle.std.proofs.ByRecursion.{Decides-by_and}
 use Rattle.shares.specs.Polynomial.{value}
 use Rattle.shares.specs.Weights.{weight_among, dot}
 use Rattle.sheets.specs.Meaning.{plain_run}
-use Rattle.sheets.specs.Reading.{nines, any_undefined, inputs}
+use Rattle.sheets.specs.Reading.{any_undefined}
 use Rattle.runs.specs.Run.{final, opened_by}
 use Rattle.runs.specs.Seen.{seen_by}
 use Rattle.runs.specs.Pairing.{linear_product, mask, shifted, paired_coins}
@@ -29,7 +29,7 @@ unfolding every
 every_decides = Decides-by_and agrees Holds every agrees_decides refl (λ r rs. refl)
 
 every_row : every table ≡ true
-unfolding agrees every value weight_among dot plain_run nines any_undefined inputs final opened_by seen_by linear_product mask shifted paired_coins
+unfolding agrees every value weight_among dot plain_run any_undefined final opened_by seen_by linear_product mask shifted paired_coins
 every_row = refl
 
 pub cases : Cases

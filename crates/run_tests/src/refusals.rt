@@ -1,17 +1,10 @@
 // What is refused.
 use crate::writing::sheet_of;
-use runs::{Outcome, run};
+use runs::run;
 use sheets::{Line, Refusal, Sheet};
 use std::alloc::Global;
 use std::process::Abort;
 use std::test::Fail;
-
-fn refusal(got: Result<Outcome, Refusal>) -> Option<Refusal> {
-    match got {
-        Ok(_) => None,
-        Err(refusal) => Some(refusal),
-    }
-}
 
 // Two figures of member 1, and their product.
 fn squares(rt: &impl Abort, heap: Global) -> Result<Sheet, Fail> {
@@ -36,15 +29,15 @@ fn figures_run_out(rt: HostRuntime) -> Result<(), Fail> {
     let few: [&[u32]; 3] = [&[1], &[], &[]];
     let one: [&[u32]; 1] = [&[7]];
     assert_eq!(rt;
-        refusal(run(rt.alloc(), &sheet, &one, &enough, &[true; 15])),
+        run(rt.alloc(), &sheet, &one, &enough, &[true; 15]).err(),
         Some(Refusal::NoFigure)
     );
     assert_eq!(rt;
-        refusal(run(rt.alloc(), &sheet, &one, &few, &[false; 15])),
+        run(rt.alloc(), &sheet, &one, &few, &[false; 15]).err(),
         Some(Refusal::NoFigure)
     );
     assert_eq!(rt;
-        refusal(run(rt.alloc(), &sheet, &[], &[], &[true; 15])),
+        run(rt.alloc(), &sheet, &[], &[], &[true; 15]).err(),
         Some(Refusal::NoFigure)
     );
     Ok(())
@@ -58,15 +51,15 @@ fn coins_run_out(rt: HostRuntime) -> Result<(), Fail> {
     let of_the_third: [&[u32]; 3] = [&[1, 1, 1], &[1], &[]];
     let of_the_first: [&[u32]; 3] = [&[1], &[1, 1, 1], &[1]];
     assert_eq!(rt;
-        refusal(run(rt.alloc(), &sheet, &two, &enough, &[true; 15])),
+        run(rt.alloc(), &sheet, &two, &enough, &[true; 15]).err(),
         None
     );
     assert_eq!(rt;
-        refusal(run(rt.alloc(), &sheet, &two, &of_the_third, &[true; 15])),
+        run(rt.alloc(), &sheet, &two, &of_the_third, &[true; 15]).err(),
         Some(Refusal::NoCoins)
     );
     assert_eq!(rt;
-        refusal(run(rt.alloc(), &sheet, &two, &of_the_first, &[true; 15])),
+        run(rt.alloc(), &sheet, &two, &of_the_first, &[true; 15]).err(),
         Some(Refusal::NoCoins)
     );
     Ok(())
@@ -80,15 +73,15 @@ fn too_large(rt: HostRuntime) -> Result<(), Fail> {
     let two: [&[u32]; 1] = [&[field::P - 1, 0]];
     let enough: [&[u32]; 3] = [&[field::P - 1, 0, 1], &[0], &[0]];
     assert_eq!(rt;
-        refusal(run(rt.alloc(), &sheet, &two, &enough, &[true; 15])),
+        run(rt.alloc(), &sheet, &two, &enough, &[true; 15]).err(),
         None
     );
     assert_eq!(rt;
-        refusal(run(rt.alloc(), &sheet, &large, &enough, &[true; 15])),
+        run(rt.alloc(), &sheet, &large, &enough, &[true; 15]).err(),
         Some(Refusal::OutOfRange)
     );
     assert_eq!(rt;
-        refusal(run(rt.alloc(), &sheet, &two, &large, &[true; 15])),
+        run(rt.alloc(), &sheet, &two, &large, &[true; 15]).err(),
         Some(Refusal::OutOfRange)
     );
     Ok(())
