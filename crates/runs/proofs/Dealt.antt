@@ -1,16 +1,11 @@
 -- One dealing: what was drawn, sent and noted.
-use Rattle.std.proofs.Common.{◌≡◌, ℕ, ◌≤◌, Bool, T, List, ◌++◌, length, take, sym, ap, ◌∙◌, subst}
-use Rattle.field.specs.Field.{below}
-use Rattle.field.proofs.Below.{below-take}
+use Rattle.std.proofs.Common.{◌≡◌, ℕ, ◌≤◌, Bool, List, ◌++◌, length, take, ap, ◌∙◌}
 use Rattle.shares.specs.Circle.{Circle}
 use Rattle.shares.specs.Polynomial.{share_of, dealt}
 use Rattle.sheets.specs.Drawing.{after}
 use Rattle.runs.specs.Row.{row_of, picked}
-use Rattle.runs.specs.Steps.{Reduced, Dealing}
+use Rattle.runs.specs.Steps.{Dealing}
 use Rattle.runs.proofs.Inrow.{picked-row, dealt-row}
-
-pub drawn-below : (coins : ℕ → List ℕ) (w t : ℕ) (drawn : List ℕ) → Reduced coins → drawn ≡ take t (coins w) → T (below drawn)
-drawn-below coins w t drawn h e = subst (λ (xs : List ℕ). T (below xs)) (sym e) (below-take t (coins w) (h w))
 
 pub dealt_out : (z : Circle) (c : ℕ → Bool) (w v : ℕ) (coins coins' : ℕ → List ℕ) (seen seen' row drawn : List ℕ) →
     z.n ≤ 15 → z.t ≤ length (coins w) → drawn ≡ take z.t (coins w) → coins' ≡ after w z.t coins → row ≡ dealt 15 v drawn →

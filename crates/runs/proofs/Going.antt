@@ -9,7 +9,7 @@ use Rattle.field.proofs.Ring.{⊕-below, ⊗-below}
 use Rattle.shares.specs.Circle.{Circle, members}
 use Rattle.shares.proofs.Dots.{dot-below}
 use Rattle.shares.proofs.Values.{value-below}
-use Rattle.sheets.specs.Lines.{made, good, good_line, deals}
+use Rattle.sheets.specs.Lines.{made, good, good_line}
 use Rattle.sheets.specs.Meaning.{figures_after}
 use Rattle.sheets.specs.declared.line.Line.{Line}
 use Rattle.sheets.specs.declared.line.Line.TheVariants.{Input, Sum, Times, Product, Open}
@@ -19,8 +19,7 @@ use Rattle.runs.specs.Row.{row_of}
 use Rattle.runs.specs.Run.{State, after, shares, share, opened, opened_by, opens, coins_after}
 use Rattle.runs.specs.Seen.{seen_at, seen_by, sees}
 use Rattle.runs.specs.Short.{short_at, or_else, runs_out}
-use Rattle.runs.specs.Steps.{Reduced, in_state, Ready, Done}
-use Rattle.runs.proofs.Dealers.{below-after, figures-below-after}
+use Rattle.runs.specs.Steps.{in_state, Ready, Done}
 
 -- every share is below p
 abbrev pub Small : (ℕ → ℕ) → Type 0
@@ -59,20 +58,16 @@ module _ (z : Circle) (c : ℕ → Bool) (ls : List Line) (F C : ℕ → List �
     pub values : List (ℕ → ℕ)
     pub holds : rows ≡ map row_of values
     pub small : All Small values
-    pub figures_small : Reduced figures
-    pub coins_small : Reduced coins
     pub well : T (good z.n (length values) (drop k ls))
     pub opens_all : shown ++ opened_by z (drop k ls) (in_state values figures coins) ≡ opens z ls F C
     pub sees_all : seen ++ seen_by z c (drop k ls) (in_state values figures coins) ≡ sees z c ls F C
     pub short : runs_out z (drop k ls) figures coins ≡ runs_out z ls F C
 
-  pub going_none : (rows : List (List ℕ)) (shown seen : List ℕ) → rows ≡ [] → shown ≡ [] → seen ≡ [] → T (good z.n 0 ls) → Reduced F → Reduced C → Going 0 rows F C shown seen
-  going_none rows shown seen er eo es g hf hc = record {
+  pub going_none : (rows : List (List ℕ)) (shown seen : List ℕ) → rows ≡ [] → shown ≡ [] → seen ≡ [] → T (good z.n 0 ls) → Going 0 rows F C shown seen
+  going_none rows shown seen er eo es g = record {
     values = [];
     holds = er;
     small = tt;
-    figures_small = hf;
-    coins_small = hc;
     well = g;
     opens_all = ap (λ (xs : List ℕ). xs ++ opens z ls F C) eo;
     sees_all = ap (λ (xs : List ℕ). xs ++ sees z c ls F C) es;
@@ -101,8 +96,6 @@ module _ (z : Circle) (c : ℕ → Bool) (ls : List Line) (F C : ℕ → List �
         record {
           good = subst (λ (n : ℕ). T (good_line z.n n l)) (sym long) both_good.0;
           small = subst (All (λ row. T (below row))) (sym h.holds) (rows_small h.values h.small);
-          figures_small = h.figures_small;
-          coins_small = h.coins_small;
         }
 
     opened_split : opened_by z (drop k ls) s ≡ opened z l s ++ opened_by z rest (after z l s)
@@ -127,8 +120,6 @@ module _ (z : Circle) (c : ℕ → Bool) (ls : List Line) (F C : ℕ → List �
           values = h.values ++ shares z l s;
           holds = q.held;
           small = All-append Small h.values (shares z l s) h.small (shares-small z l s);
-          figures_small = figures-below-after l figures h.figures_small;
-          coins_small = λ i. below-after (deals z l i) z.t (coins i) (h.coins_small i);
           well = subst (λ (n : ℕ). T (good z.n n rest)) (sym (made-is z l s)) both_good.1;
           opens_all = ap (λ (xs : List ℕ). xs ++ opened_by z rest (after z l s)) q.opens
               ∙ (append_assoc shown (opened z l s) (opened_by z rest (after z l s))

@@ -1,6 +1,5 @@
 pub mod Alike
 pub mod Apart
-pub mod Checked
 pub mod Coins
 pub mod Dealers
 pub mod Dealt

@@ -1,7 +1,6 @@
 -- What a run answers.
-use Rattle.std.specs.Prelude.{◌≡◌, ℕ, ◌≤◌, Bool, T, ◌⊎◌, List, length, Some, None, Ok, Err, vec_items, Result}
+use Rattle.std.specs.Prelude.{◌≡◌, ℕ, Bool, ◌⊎◌, List, Some, None, Ok, Err, vec_items, Result}
 use Rattle.shares.specs.Circle.{Circle}
-use Rattle.sheets.specs.Lines.{good}
 use Rattle.sheets.specs.Meaning.{result}
 use Rattle.sheets.specs.declared.line.Line.{Line}
 use Rattle.sheets.specs.declared.refusal.Refusal.{Refusal}
@@ -30,13 +29,7 @@ RunAs z c ls figures coins (Err e) =
     ⊎ (((e ≡ OutOfRange) × (Reduced figures × Reduced coins → ⊥))
     ⊎ ((Reduced figures × Reduced coins) × (runs_out z ls figures coins ≡ Some e)))
 
--- the same of lines and lists that are known to be good
-pub record Given (z : Circle) (ls : List Line) (figures coins : ℕ → List ℕ) : Type 0 where
-  pub well : T (good z.n 0 ls)
-  pub short : length ls ≤ 4096
-  pub figures_small : Reduced figures
-  pub coins_small : Reduced coins
-
+-- the same of lists that are below p
 pub record AllDone (z : Circle) (c : ℕ → Bool) (ls : List Line) (figures coins : ℕ → List ℕ) (opened seen : List ℕ) : Type 0 where
   pub enough : runs_out z ls figures coins ≡ None
   pub as_run : opened ≡ opens z ls figures coins

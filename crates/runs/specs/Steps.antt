@@ -96,8 +96,6 @@ ShownAs z f opened opened' seen seen' (Err e) = e ≡ NoMemory
 pub record Ready (z : Circle) (l : Line) (rows : List (List ℕ)) (figures coins : ℕ → List ℕ) : Type 0 where
   pub good : T (good_line z.n (length rows) l)
   pub small : AllByRecursion (λ row. T (below row)) rows
-  pub figures_small : Reduced figures
-  pub coins_small : Reduced coins
 
 -- a line is done, from a state of which the rows are held
 pub record Done (z : Circle) (c : ℕ → Bool) (l : Line) (s : State) (rows' : List (List ℕ)) (figures' coins' : ℕ → List ℕ) (shown shown' seen seen' : List ℕ) : Type 0 where

@@ -2,13 +2,13 @@
 ghost use Rattle.std.specs.Prelude.{◌≡◌, ◌<◌};
 ghost use Rattle.field.specs.Field.{p};
 ghost use Rattle.runs.specs.Setups.{circle_in};
-ghost use Rattle.runs.specs.Steps.{Reduced, DealtOut};
+ghost use Rattle.runs.specs.Steps.{DealtOut};
 ghost use Rattle.runs.specs.Watching.{watches};
-ghost use Rattle.sheets.specs.Families.{family, of};
+ghost use Rattle.sheets.specs.Numbers.{numbers};
 
 use crate::row::Row;
 use crate::setup::Setup;
-use sheets::{Refusal, draw};
+use sheets::{Lists, Refusal};
 
 impl Setup {
     // The shares of a member's number, under its next t coins.
@@ -16,13 +16,13 @@ impl Setup {
         &self,
         member: u32,
         secret: u32,
-        coins: &mut [&[u32]],
+        coins: &mut Lists,
         seen: &mut Vec<u32>,
     ) -> Result<Row, Refusal>
-        requires { (secret < p) × Reduced (of (family coins.old)) }
-        ensures { DealtOut (circle_in self.now) (watches self.now.watched) member secret (of (family coins.old)) (of (family coins.new)) seen.old.items seen.new.items result }
+        requires { secret < p }
+        ensures { DealtOut (circle_in self.now) (watches self.now.watched) member secret (numbers coins.old) (numbers coins.new) seen.old.items seen.new.items result }
     {
-        let Some(drawn) = draw(coins, member, self.t) else {
+        let Some(drawn) = coins.draw(member, self.t) else {
             return Err(Refusal::NoCoins);
         };
         let mut row = [0; 15];

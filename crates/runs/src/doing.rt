@@ -5,40 +5,35 @@ ghost use Rattle.runs.specs.Row.{row_of};
 ghost use Rattle.runs.specs.Setups.{circle_in};
 ghost use Rattle.runs.specs.Steps.{in_state, Ready, DoneAs};
 ghost use Rattle.runs.specs.Watching.{watches};
-ghost use Rattle.sheets.specs.Families.{family, of};
+ghost use Rattle.sheets.specs.Numbers.{numbers};
 
 use crate::progress::Progress;
 use crate::row::{multiple, sum};
 use crate::setup::Setup;
-use sheets::{Line, Refusal};
+use sheets::{Line, Lists, Refusal};
 use std::alloc::Global;
 
 impl<'a> Progress<'a> {
     // A run before its first line, with room for what so many lines make and for so many words seen.
     pub fn new(
         heap: Global,
-        figures: &[&'a [u32]],
+        figures: Lists<'a>,
         lines: usize,
         words: usize,
     ) -> Result<Progress<'a>, Refusal>
-        ensures { StartedAs (family figures.now) result }
+        ensures { StartedAs figures.entry result }
     {
         Ok(Progress {
-            figures: Vec::from_slice(heap, figures)?,
+            figures,
             held: Vec::with_capacity(heap, lines)?,
             opened: Vec::with_capacity(heap, lines)?,
             seen: Vec::with_capacity(heap, words)?,
         })
     }
 
-    pub fn do_line(
-        &mut self,
-        setup: &Setup,
-        line: Line,
-        coins: &mut [&[u32]],
-    ) -> Result<(), Refusal>
-        requires { Ready (circle_in setup.now) line self.old.held.items (of (family self.old.figures.items)) (of (family coins.old)) }
-        ensures { (values : List (ℕ → ℕ)) → self.old.held.items ≡ map row_of values → DoneAs (circle_in setup.now) (watches setup.now.watched) line (in_state values (of (family self.old.figures.items)) (of (family coins.old))) self.new.held.items (of (family self.new.figures.items)) (of (family coins.new)) self.old.opened.items self.new.opened.items self.old.seen.items self.new.seen.items result }
+    pub fn do_line(&mut self, setup: &Setup, line: Line, coins: &mut Lists) -> Result<(), Refusal>
+        requires { Ready (circle_in setup.now) line self.old.held.items (numbers self.old.figures) (numbers coins.old) }
+        ensures { (values : List (ℕ → ℕ)) → self.old.held.items ≡ map row_of values → DoneAs (circle_in setup.now) (watches setup.now.watched) line (in_state values (numbers self.old.figures) (numbers coins.old)) self.new.held.items (numbers self.new.figures) (numbers coins.new) self.old.opened.items self.new.opened.items self.old.seen.items self.new.seen.items result }
     {
         let row = match line {
             Line::Input(member) => setup.put_in(member, &mut self.figures, coins, &mut self.seen)?,

@@ -2,15 +2,15 @@
 ghost use Rattle.std.specs.Prelude.{◌≡◌, ℕ, false};
 ghost use Rattle.runs.specs.Row.{row_of};
 ghost use Rattle.runs.specs.Setups.{circle_in};
-ghost use Rattle.runs.specs.Steps.{Reduced, lacks, MultipliedAs, ProductAs};
+ghost use Rattle.runs.specs.Steps.{lacks, MultipliedAs, ProductAs};
 ghost use Rattle.runs.specs.Watching.{watches};
 ghost use Rattle.shares.specs.Circle.{members};
-ghost use Rattle.sheets.specs.Families.{family, of};
+ghost use Rattle.sheets.specs.Numbers.{numbers};
 ghost use Rattle.std.specs.List.{list_any};
 
 use crate::row::{Row, add_weighted};
 use crate::setup::Setup;
-use sheets::Refusal;
+use sheets::{Lists, Refusal};
 
 impl Setup {
     // The shares of the product of two values, of which the shares are given.
@@ -18,11 +18,10 @@ impl Setup {
         &self,
         a: &Row,
         b: &Row,
-        coins: &mut [&[u32]],
+        coins: &mut Lists,
         seen: &mut Vec<u32>,
     ) -> Result<Row, Refusal>
-        requires { Reduced (of (family coins.old)) }
-        ensures { (f g : ℕ → ℕ) → a.now ≡ row_of f → b.now ≡ row_of g → ProductAs (circle_in self.now) (watches self.now.watched) f g (of (family coins.old)) (of (family coins.new)) seen.old.items seen.new.items result }
+        ensures { (f g : ℕ → ℕ) → a.now ≡ row_of f → b.now ≡ row_of g → ProductAs (circle_in self.now) (watches self.now.watched) f g (numbers coins.old) (numbers coins.new) seen.old.items seen.new.items result }
     {
         self.note_all_coins(coins, seen)?;
         self.deal_products(a, b, coins, seen)
@@ -33,11 +32,11 @@ impl Setup {
         &self,
         a: &Row,
         b: &Row,
-        coins: &mut [&[u32]],
+        coins: &mut Lists,
         seen: &mut Vec<u32>,
     ) -> Result<Row, Refusal>
-        requires { Reduced (of (family coins.old)) × (list_any (lacks (circle_in self.now) (of (family coins.old))) (members self.now.n) ≡ false) }
-        ensures { (f g : ℕ → ℕ) → a.now ≡ row_of f → b.now ≡ row_of g → MultipliedAs (circle_in self.now) (watches self.now.watched) f g (of (family coins.old)) (of (family coins.new)) seen.old.items seen.new.items result }
+        requires { list_any (lacks (circle_in self.now) (numbers coins.old)) (members self.now.n) ≡ false }
+        ensures { (f g : ℕ → ℕ) → a.now ≡ row_of f → b.now ≡ row_of g → MultipliedAs (circle_in self.now) (watches self.now.watched) f g (numbers coins.old) (numbers coins.new) seen.old.items seen.new.items result }
     {
         let mut made = [0; 15];
         // i is the place of one member in two rows and among the weights.

@@ -1,14 +1,17 @@
 // Running a sheet for all members.
-ghost use Rattle.runs.specs.Outcome.{RunAs, Given, AllDoneAs};
+ghost use Rattle.std.specs.Prelude.{◌≤◌, T, length};
+ghost use Rattle.runs.specs.Outcome.{RunAs, AllDoneAs};
 ghost use Rattle.runs.specs.Setups.{circle_in};
 ghost use Rattle.runs.specs.Watching.{watches};
 ghost use Rattle.sheets.specs.Families.{family, of};
+ghost use Rattle.sheets.specs.Lines.{good};
+ghost use Rattle.sheets.specs.Numbers.{numbers};
 ghost use Rattle.sheets.specs.Sheets.{circle_of, lines_in};
 
 use crate::outcome::Outcome;
 use crate::progress::Progress;
 use crate::setup::Setup;
-use sheets::{Line, Refusal, Sheet, are_all_below};
+use sheets::{Line, Lists, Refusal, Sheet};
 use std::alloc::Global;
 
 // What the sheet opens of figures and coins, one list for each member, and what the watched see of it. Member i's list
@@ -22,10 +25,8 @@ pub fn run(
 ) -> Result<Outcome, Refusal>
     ensures { RunAs (circle_of sheet.now) (watches watched.now) (lines_in sheet.now) (of (family figures.now)) (of (family coins.now)) result }
 {
-    if !are_all_below(figures) || !are_all_below(coins) {
-        return Err(Refusal::OutOfRange);
-    }
-    let mut coins = Vec::from_slice(heap, coins)?;
+    let figures = Lists::new(heap, figures)?;
+    let mut coins = Lists::new(heap, coins)?;
     let setup = Setup::new(sheet, watched);
     run_lines(heap, &setup, sheet.lines(), figures, &mut coins)
 }
@@ -37,11 +38,11 @@ fn run_lines(
     heap: Global,
     setup: &Setup,
     lines: &[Line],
-    figures: &[&[u32]],
-    coins: &mut [&[u32]],
+    figures: Lists,
+    coins: &mut Lists,
 ) -> Result<Outcome, Refusal>
-    requires { Given (circle_in setup.now) lines.now (of (family figures.now)) (of (family coins.old)) }
-    ensures { AllDoneAs (circle_in setup.now) (watches setup.now.watched) lines.now (of (family figures.now)) (of (family coins.old)) result }
+    requires { T (good setup.now.n 0 lines.now) × (length lines.now ≤ 4096) }
+    ensures { AllDoneAs (circle_in setup.now) (watches setup.now.watched) lines.now (numbers figures.entry) (numbers coins.old) result }
 {
     let mut progress = Progress::new(heap, figures, lines.len(), MOST_SEEN * lines.len())?;
     for line in lines {

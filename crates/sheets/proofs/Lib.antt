@@ -9,3 +9,5 @@ pub mod Needed
 pub mod Works
 pub mod Plainly
 pub mod Words
+pub mod Checked
+pub mod Taken

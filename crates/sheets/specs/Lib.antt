@@ -5,6 +5,7 @@ pub mod Faults
 pub mod Laws
 pub mod Lines
 pub mod Meaning
+pub mod Numbers
 pub mod Outcome
 pub mod Reading
 pub mod Refusals

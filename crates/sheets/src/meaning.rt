@@ -3,12 +3,12 @@ ghost use Rattle.std.specs.Prelude.{◌≡◌, ℕ, ◌<◌, T, [], vec_len};
 ghost use Rattle.field.specs.Field.{below};
 ghost use Rattle.sheets.specs.Families.{family};
 ghost use Rattle.sheets.specs.Lines.{good_line};
+ghost use Rattle.sheets.specs.Numbers.{lists_in};
 ghost use Rattle.sheets.specs.Outcome.{WorkedAs, ResultAs};
 ghost use Rattle.sheets.specs.Sheets.{lines_in};
 
-use crate::drawing::draw;
 use crate::line::Line;
-use crate::numbers::are_all_below;
+use crate::lists::Lists;
 use crate::refusal::Refusal;
 use crate::sheet::Sheet;
 use std::alloc::Global;
@@ -16,20 +16,20 @@ use std::alloc::Global;
 // The figures not taken yet, the values made and what is opened so far.
 #[derive(Drop)]
 struct Plain<'a> {
-    figures: Vec<&'a [u32]>,
+    figures: Lists<'a>,
     values: Vec<u32>,
     opened: Vec<u32>,
 }
 
-impl<'a> Plain<'a> {
+impl Plain<'_> {
     // Works one line: what it makes or opens is appended, and its figure is taken.
     fn work(&mut self, line: Line) -> Result<(), Refusal>
         requires { ((n : ℕ) × T (good_line n (vec_len self.old.values) line)) × T (below self.old.values.items) }
-        ensures { WorkedAs line (family self.old.figures.items) (family self.new.figures.items) self.old.values.items self.new.values.items self.old.opened.items self.new.opened.items result }
+        ensures { WorkedAs line (lists_in self.old.figures) (lists_in self.new.figures) self.old.values.items self.new.values.items self.old.opened.items self.new.opened.items result }
     {
         match line {
             Line::Input(member) => {
-                let figure = draw(&mut self.figures, member, 1).ok_or(Refusal::NoFigure)?;
+                let figure = self.figures.draw(member, 1).ok_or(Refusal::NoFigure)?;
                 self.values.push(figure[0])?;
             }
             Line::Sum(a, b) => {
@@ -55,11 +55,8 @@ impl Sheet {
     pub fn result(&self, heap: Global, figures: &[&[u32]]) -> Result<Vec<u32>, Refusal>
         ensures { ResultAs (lines_in self.now) (family figures.now) result }
     {
-        if !are_all_below(figures) {
-            return Err(Refusal::OutOfRange);
-        }
         let mut plain = Plain {
-            figures: Vec::from_slice(heap, figures)?,
+            figures: Lists::new(heap, figures)?,
             values: Vec::with_capacity(heap, self.lines.len())?,
             opened: Vec::new(heap),
         };

@@ -1,6 +1,7 @@
-use Rattle.std.proofs.Common.{ℕ, List, vec_items, sym, subst, inl, inr}
+use Rattle.std.proofs.Common.{vec_items, sym, subst, inl, inr}
 use Rattle.std.proofs.lemmas.Result.{err_from_is_err_and}
-use Rattle.sheets.specs.Families.{family, of}
+use Rattle.sheets.specs.Numbers.{numbers}
+use Rattle.sheets.specs.declared.lists.Lists.{Lists}
 use Rattle.runs.specs.Setups.{circle_in}
 use Rattle.runs.specs.Watching.{watches}
 use Rattle.runs.proofs.Going.{Going, going_none, going_ready, going_short, going_more, going_all}
@@ -10,19 +11,18 @@ pub loop-line-init : goal.loop-line-init
 loop-line-init c =
     let z = circle_in c.args.setup.now in
     let watching = watches c.args.setup.now.watched in
-    let F = of (family c.args.figures.now) in
-    let C = of (family c.args.coins.now) in
+    let F = numbers c.args.figures in
+    let C = numbers c.args.coins.now in
     let p = c.in_ok-progress.progress in
     let started = c.in_ok-progress.ensures in
-    subst (λ (xs : List (List ℕ)). Going z watching c.args.lines.now F C 0 (vec_items p.held) (of xs) C (vec_items p.opened) (vec_items p.seen)) (sym started.whole)
-    (going_none z watching c.args.lines.now F C (vec_items p.held) (vec_items p.opened) (vec_items p.seen) started.unmade started.unopened started.unseen
-    c.requires.well c.requires.figures_small c.requires.coins_small)
+    subst (λ (l : Lists). Going z watching c.args.lines.now F C 0 (vec_items p.held) (numbers l) C (vec_items p.opened) (vec_items p.seen)) (sym started.whole)
+    (going_none z watching c.args.lines.now F C (vec_items p.held) (vec_items p.opened) (vec_items p.seen) started.unmade started.unopened started.unseen c.requires.0)
 
 pub do_line-requires : goal.do_line-requires
 do_line-requires c =
     let p = c.loop-line.progress in
-    going_ready (circle_in c.args.setup.now) (watches c.args.setup.now.watched) c.args.lines.now (of (family c.args.figures.now)) (of (family c.args.coins.now))
-    c.loop-line.line-index _ (vec_items p.held) (of (family (vec_items p.figures))) (of (family c.loop-line.coins)) (vec_items p.opened) (vec_items p.seen)
+    going_ready (circle_in c.args.setup.now) (watches c.args.setup.now.watched) c.args.lines.now (numbers c.args.figures) (numbers c.args.coins.now)
+    c.loop-line.line-index _ (vec_items p.held) (numbers p.figures) (numbers c.loop-line.coins) (vec_items p.opened) (vec_items p.seen)
     c.loop-line-test.true c.loop-line.invariant
 
 pub returns-in_err-do_line : goal.returns-in_err-do_line
@@ -32,8 +32,8 @@ returns-in_err-do_line c =
     rw (q.1, q.2)
     (elim (c.in_err-do_line.ensures c.loop-line.invariant.values c.loop-line.invariant.holds) [
       | inl e ↦ inl e
-      | inr h ↦ inr (going_short (circle_in c.args.setup.now) (watches c.args.setup.now.watched) c.args.lines.now (of (family c.args.figures.now)) (of (family c.args.coins.now))
-          c.loop-line.line-index _ (vec_items p.held) (of (family (vec_items p.figures))) (of (family c.loop-line.coins)) (vec_items p.opened) (vec_items p.seen)
+      | inr h ↦ inr (going_short (circle_in c.args.setup.now) (watches c.args.setup.now.watched) c.args.lines.now (numbers c.args.figures) (numbers c.args.coins.now)
+          c.loop-line.line-index _ (vec_items p.held) (numbers p.figures) (numbers c.loop-line.coins) (vec_items p.opened) (vec_items p.seen)
           c.loop-line-test.true c.loop-line.invariant c.in_err-do_line.field-0.0 h)
     ])
 
@@ -41,15 +41,15 @@ pub loop-line-preserved : goal.loop-line-preserved
 loop-line-preserved c =
     let p = c.loop-line.progress in
     let q = c.do_line.new.self in
-    going_more (circle_in c.args.setup.now) (watches c.args.setup.now.watched) c.args.lines.now (of (family c.args.figures.now)) (of (family c.args.coins.now))
-    c.loop-line.line-index _ (vec_items p.held) (of (family (vec_items p.figures))) (of (family c.loop-line.coins)) (vec_items p.opened) (vec_items p.seen)
+    going_more (circle_in c.args.setup.now) (watches c.args.setup.now.watched) c.args.lines.now (numbers c.args.figures) (numbers c.args.coins.now)
+    c.loop-line.line-index _ (vec_items p.held) (numbers p.figures) (numbers c.loop-line.coins) (vec_items p.opened) (vec_items p.seen)
     c.loop-line-test.true c.loop-line.invariant
-    (vec_items q.held) (of (family (vec_items q.figures))) (of (family c.do_line.new.coins)) (vec_items q.opened) (vec_items q.seen)
+    (vec_items q.held) (numbers q.figures) (numbers c.do_line.new.coins) (vec_items q.opened) (vec_items q.seen)
     (c.in_ok-do_line.ensures c.loop-line.invariant.values c.loop-line.invariant.holds)
 
 pub returns : goal.returns
 returns c =
     let p = c.loop-line.progress in
-    going_all (circle_in c.args.setup.now) (watches c.args.setup.now.watched) c.args.lines.now (of (family c.args.figures.now)) (of (family c.args.coins.now))
-    c.loop-line.line-index (vec_items p.held) (of (family (vec_items p.figures))) (of (family c.loop-line.coins)) (vec_items p.opened) (vec_items p.seen)
+    going_all (circle_in c.args.setup.now) (watches c.args.setup.now.watched) c.args.lines.now (numbers c.args.figures) (numbers c.args.coins.now)
+    c.loop-line.line-index (vec_items p.held) (numbers p.figures) (numbers c.loop-line.coins) (vec_items p.opened) (vec_items p.seen)
     c.loop-line-test.false c.loop-line.invariant

@@ -1,5 +1,5 @@
 use Rattle.std.proofs.Common.{vec_items}
-use Rattle.sheets.specs.Families.{family, of}
+use Rattle.sheets.specs.Numbers.{numbers}
 use Rattle.runs.specs.Setups.{circle_in}
 use Rattle.runs.specs.Watching.{watches}
 use Rattle.runs.proofs.Going.{Going}
@@ -7,5 +7,5 @@ use Rattle.runs.proofs.running.run_lines.Given as goal
 
 abbrev pub invariant-loop-line : goal.invariant-loop-line
 invariant-loop-line l =
-    Going (circle_in l.setup) (watches l.setup.watched) l.lines (of (family l.figures)) (of (family l.initial.coins))
-    l.line-index (vec_items l.progress.held) (of (family (vec_items l.progress.figures))) (of (family l.coins)) (vec_items l.progress.opened) (vec_items l.progress.seen)
+    Going (circle_in l.setup) (watches l.setup.watched) l.lines (numbers l.fn.figures) (numbers l.initial.coins)
+    l.line-index (vec_items l.progress.held) (numbers l.progress.figures) (numbers l.coins) (vec_items l.progress.opened) (vec_items l.progress.seen)

@@ -1,10 +1,9 @@
-use Rattle.std.proofs.Common.{◌≡◌, List, [], ◌∷◌, ◌++◌, length, vec_items, ap₂, ◌∙◌, subst, inl, inr, rules}
+use Rattle.std.proofs.Common.{◌≡◌, List, [], ◌∷◌, ◌++◌, length, vec_items, ap₂, ◌∙◌, inl, inr, rules}
 use Rattle.std.proofs.lemmas.Result.{err_from_is_err_and}
-use Rattle.sheets.specs.Families.{family, of}
-use Rattle.sheets.proofs.Works.{given_back}
+use Rattle.sheets.specs.Numbers.{numbers}
 use Rattle.runs.specs.Run.{share}
 use Rattle.runs.specs.Setups.{circle_in}
-use Rattle.runs.specs.Steps.{in_state, Entered}
+use Rattle.runs.specs.Steps.{in_state}
 use Rattle.runs.specs.Watching.{watches}
 use Rattle.runs.specs.declared.progress.Progress.{Progress}
 use Rattle.runs.proofs.Stepped.{row_read, row_small, good_sum, good_times, good_product, good_open, done_input, done_sum, done_times, done_product, done_open, product_short}
@@ -25,21 +24,17 @@ returns c values e =
     let watching = watches c.args.setup.now.watched in
     let p = c.args.self.now in
     let rows = vec_items p.held in
-    let figures = of (family (vec_items p.figures)) in
-    let coins = of (family c.args.coins.now) in
+    let figures = numbers p.figures in
+    let coins = numbers c.args.coins.now in
     let s = in_state values figures coins in
     let kept = vec_items c.push.new.self in
     elim c.match-line.branch [
       | in-Input+in_ok-row-in-Input w ↦
-          let left = w.put_in.new.figures in
-          let as_long : length left ≡ p.figures.len = search rules in
           let row = w.in_ok-row-in-Input.row in
-          let entered = subst (λ xs. Entered z watching w.in-Input.member (of (family xs)) (of (family left)) coins (of (family w.put_in.new.coins)) (vec_items p.seen) (vec_items w.put_in.new.seen) row)
-          w.deref_mut.ensures.value w.in_ok-row-in-Input.ensures in
           let pushed : kept ≡ rows ++ row ∷ [] = c.in_ok-push.ensures.items ∙ ap₂ (λ (q : Progress) (r : List _). vec_items q.held ++ r ∷ []) w.self-is w.row-is in
-          rw (w.self-is, w.coins-is, given_back p.figures.len left (vec_items p.figures) as_long)
+          rw (w.self-is, w.coins-is)
           (done_input z watching values rows kept figures coins (vec_items p.opened) (vec_items p.seen) e
-          c.args.line w.in-Input.member w.in-Input.is (of (family left)) (of (family w.put_in.new.coins)) (vec_items w.put_in.new.seen) row entered pushed)
+          c.args.line w.in-Input.member w.in-Input.is (numbers w.put_in.new.figures) (numbers w.put_in.new.coins) (vec_items w.put_in.new.seen) row w.in_ok-row-in-Input.ensures pushed)
       | in-Sum w ↦
           let there = good_sum c.args.setup.now.n (length rows) c.args.line c.requires.good w.in-Sum.a w.in-Sum.b w.in-Sum.is in
           let long : length w.sum-row.result ≡ 15 = search rules in
@@ -62,7 +57,7 @@ returns c values e =
           let pushed : kept ≡ rows ++ row ∷ [] = c.in_ok-push.ensures.items ∙ ap₂ (λ (q : Progress) (r : List _). vec_items q.held ++ r ∷ []) w.self-is w.row-is in
           rw (w.self-is, w.coins-is)
           (done_product z watching values rows kept figures coins (vec_items p.opened) (vec_items p.seen) e
-          c.args.line w.in-Product.a w.in-Product.b w.in-Product.is (of (family w.multiply.new.coins)) (vec_items w.multiply.new.seen) row
+          c.args.line w.in-Product.a w.in-Product.b w.in-Product.is (numbers w.multiply.new.coins) (vec_items w.multiply.new.seen) row
           (w.in_ok-row-in-Product.ensures (share s w.in-Product.a) (share s w.in-Product.b)
           (row_read rows values w.in-Product.a w.index-in-Product.result.now e there.0 w.index-in-Product.ensures)
           (row_read rows values w.in-Product.b w.index-in-Product-2.result.now e there.1 w.index-in-Product-2.ensures))
@@ -72,7 +67,7 @@ returns c values e =
 pub returns-in_err-row-in-Product : goal.returns-in_err-row-in-Product
 returns-in_err-row-in-Product c values e =
     let rows = vec_items c.args.self.now.held in
-    let s = in_state values (of (family c.args.self.now.figures.items)) (of (family c.args.coins.now)) in
+    let s = in_state values (numbers c.args.self.now.figures) (numbers c.args.coins.now) in
     let there = good_product c.args.setup.now.n (length rows) c.args.line c.requires.good c.in-Product.a c.in-Product.b c.in-Product.is in
     let h = c.in_err-row-in-Product.ensures (share s c.in-Product.a) (share s c.in-Product.b)
     (row_read rows values c.in-Product.a c.index-in-Product.result.now e there.0 c.index-in-Product.ensures)
@@ -81,16 +76,16 @@ returns-in_err-row-in-Product c values e =
     rw (p.1, p.2)
     (elim h [
       | inl x ↦ inl x
-      | inr short ↦ inr (product_short (circle_in c.args.setup.now) c.args.line c.in-Product.a c.in-Product.b (of (family c.args.self.now.figures.items)) (of (family c.args.coins.now)) c.in_err-row-in-Product.field-0.0 c.in-Product.is short)
+      | inr short ↦ inr (product_short (circle_in c.args.setup.now) c.args.line c.in-Product.a c.in-Product.b (numbers c.args.self.now.figures) (numbers c.args.coins.now) c.in_err-row-in-Product.field-0.0 c.in-Product.is short)
     ])
 
 pub returns-in-Open : goal.returns-in-Open
 returns-in-Open c values e =
     let p = c.args.self.now in
     let rows = vec_items p.held in
-    let s = in_state values (of (family p.figures.items)) (of (family c.args.coins.now)) in
+    let s = in_state values (numbers p.figures) (numbers c.args.coins.now) in
     let there = good_open c.args.setup.now.n (length rows) c.args.line c.requires.good c.in-Open.a c.in-Open.is in
     done_open (circle_in c.args.setup.now) (watches c.args.setup.now.watched) values rows rows
-    (of (family p.figures.items)) (of (family c.args.coins.now)) (vec_items p.opened) (vec_items p.seen) e
+    (numbers p.figures) (numbers c.args.coins.now) (vec_items p.opened) (vec_items p.seen) e
     c.args.line c.in-Open.a c.in-Open.is (vec_items c.show.new.opened) (vec_items c.show.new.seen) c.show.result
     (c.show.ensures (share s c.in-Open.a) (row_read rows values c.in-Open.a c.index-row.result.now e there c.index-row.ensures))
