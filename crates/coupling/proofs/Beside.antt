@@ -95,9 +95,6 @@ module _ (z : Circle) (g : List ℕ) (ls : List Line) (F F' C : ℕ → List ℕ
           drawable = record {
             good = subst (λ (n : ℕ). T (good_line z.n n l)) (sym long) both_good.0;
             good' = subst (λ (n : ℕ). T (good_line z.n n l)) (sym long') both_good.0;
-            figures_small = h.figs.reduced;
-            figures_small' = h.figs'.reduced;
-            coins_small = h.enough.reduced;
             enough = λ i d. enough_now (deals z l i) z.t (coins_needed z i rest) (length (coins i)) d (h.enough.enough i);
           };
           small = subst (All (λ row. T (below row))) (sym h.holds) (rows_small h.values h.small);

@@ -1,10 +1,13 @@
 -- Both runs of a whole sheet: the theorems on what they give.
-use Rattle.std.proofs.Common.{◌≡◌, ℕ, zero, suc, ◌+◌, ◌<◌, ◌≤◌, Bool, List, [], ◌∷◌, ◌++◌, length, get_or, drop, replicate, Ok, Err, filter, Result, sym, refl, ap, ◌∙◌, subst, arith, Bor}
+use Rattle.std.proofs.Common.{◌≡◌, ℕ, zero, suc, ◌+◌, ◌<◌, ◌≤◌, Bool, List, [], ◌∷◌, ◌++◌, length, get_or, drop, replicate, T, ◌⊎◌, inl, inr, false, Ok, Err, filter, Result, sym, refl, ap, ◌∙◌, subst, arith}
 use Rattle.std.proofs.lemmas.List.{ext_get_or, get_or-take, get_or-drop, length-take, length-drop, length-append, length-replicate}
 use Rattle.shares.specs.Circle.{Circle, Fits, members}
-use Rattle.sheets.specs.Families.{family, of}
+use Rattle.field.specs.Field.{below, all_below}
+use Rattle.sheets.proofs.Checked.{below-from-reduced}
+use Rattle.sheets.specs.Families.{of}
 use Rattle.sheets.specs.declared.line.Line.{Line}
 use Rattle.sheets.specs.declared.refusal.Refusal.{Refusal}
+use Rattle.sheets.specs.declared.refusal.Refusal.TheVariants.{NoMemory, OutOfRange}
 use Rattle.masks.specs.Coefficients.{Holds}
 use Rattle.runs.specs.Pairing.{mask, mask_for, paired_coins}
 use Rattle.runs.specs.Run.{begun, opens}
@@ -52,18 +55,33 @@ module _ (z : Circle) (fits : Fits z) (c : ℕ → Bool) (ls : List Line) (C : L
       }
   coupled_at g (Err e) is h = h
 
--- the call, with the copy of the coins that it makes
-module _ (z : Circle) (fits : Fits z) (c : ℕ → Bool) (ls : List Line) (coins : List (Bor (List ℕ))) (F F' : ℕ → List ℕ) (given : Given z ls (of (family coins)) F F')
-    (z₁ : Circle) (ls₁ : List Line) (coins₁ : List (Bor (List ℕ))) (ez : z₁ ≡ z) (el : ls₁ ≡ ls) (ec : coins₁ ≡ coins) where
-  moved : (P : Circle → List Line → List (Bor (List ℕ)) → Type 0) → P z₁ ls₁ coins₁ → P z ls coins
+-- lists that are known to be below p are refused for want of memory alone
+pub reduced_lists : (lists : List (List ℕ)) (e : Refusal) → ((i : ℕ) → T (below (of lists i))) → (e ≡ NoMemory) ⊎ ((e ≡ OutOfRange) × (all_below lists ≡ false)) → e ≡ NoMemory
+reduced_lists lists e reduced (inl memory) = memory
+reduced_lists lists e reduced (inr large) = absurd (subst (λ (b : Bool). T b) large.1 (below-from-reduced lists reduced))
+
+-- the call, with the copies that it makes
+module _ (z : Circle) (fits : Fits z) (c : ℕ → Bool) (ls : List Line) (coins figures figures' : List (List ℕ)) (given : Given z ls (of coins) (of figures) (of figures'))
+    (z₁ : Circle) (ls₁ : List Line) (coins₁ figures₁ figures'₁ : List (List ℕ)) (ez : z₁ ≡ z) (el : ls₁ ≡ ls) (ec : coins₁ ≡ coins) (ef : figures₁ ≡ figures) (ef' : figures'₁ ≡ figures') where
+  moved : (P : Circle → List Line → List (List ℕ) → List (List ℕ) → List (List ℕ) → Type 0) → P z₁ ls₁ coins₁ figures₁ figures'₁ → P z ls coins figures figures'
   moved P h =
-      subst (λ (x : List (Bor (List ℕ))). P z ls x) ec
-      (subst (λ (x : List Line). P z x coins₁) el
-      (subst (λ (x : Circle). P x ls₁ coins₁) ez h))
+      subst (λ (x : List (List ℕ)). P z ls coins figures x) ef'
+      (subst (λ (x : List (List ℕ)). P z ls coins x figures'₁) ef
+      (subst (λ (x : List (List ℕ)). P z ls x figures₁ figures'₁) ec
+      (subst (λ (x : List Line). P z x coins₁ figures₁ figures'₁) el
+      (subst (λ (x : Circle). P x ls₁ coins₁ figures₁ figures'₁) ez h))))
+
+  pub all_given : Given z₁ ls₁ (of coins₁) (of figures₁) (of figures'₁)
+  all_given =
+      subst (λ (x : Circle). Given x ls₁ (of coins₁) (of figures₁) (of figures'₁)) (sym ez)
+      (subst (λ (x : List Line). Given z x (of coins₁) (of figures₁) (of figures'₁)) (sym el)
+      (subst (λ (x : List (List ℕ)). Given z ls (of x) (of figures₁) (of figures'₁)) (sym ec)
+      (subst (λ (x : List (List ℕ)). Given z ls (of coins) (of x) (of figures'₁)) (sym ef)
+      (subst (λ (x : List (List ℕ)). Given z ls (of coins) (of figures) (of x)) (sym ef') given))))
 
   pub coupled : (places : List ℕ) (r : Result Couple Refusal) → length places ≡ 8 → z.t ≤ 7 → Holds places (mask (filter c (members z₁.n))) →
-      LinesAs z₁ (higher z₁ places) ls₁ (family coins₁) F F' r → CoupledAs z c ls (of (family coins)) F F' r
+      LinesAs z₁ (higher z₁ places) ls₁ coins₁ (of figures₁) (of figures'₁) r → CoupledAs z c ls (of coins) (of figures) (of figures') r
   coupled places r eight few holds h =
       let masked : Holds places (mask (watched_in z c)) = subst (λ (x : Circle). Holds places (mask (filter c (members x.n)))) ez holds in
-      coupled_at z fits c ls (family coins) F F' given (higher z places) r (higher-is z c places few eight masked)
-      (moved (λ x xs cs. LinesAs x (higher x places) xs (family cs) F F' r) h)
+      coupled_at z fits c ls coins (of figures) (of figures') given (higher z places) r (higher-is z c places few eight masked)
+      (moved (λ x xs cs fs gs. LinesAs x (higher x places) xs cs (of fs) (of gs) r) h)

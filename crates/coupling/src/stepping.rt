@@ -4,32 +4,34 @@ ghost use Rattle.coupling.specs.Growing.{lists as lists_in};
 ghost use Rattle.coupling.specs.Sides.{Side, higher};
 ghost use Rattle.coupling.specs.Steps.{Steady, BothAs};
 ghost use Rattle.runs.specs.Run.{State};
-ghost use Rattle.sheets.specs.Families.{family, of};
+ghost use Rattle.sheets.specs.Numbers.{numbers};
 ghost use Rattle.runs.specs.Setups.{circle_in};
 
 use crate::appending::append_each;
 use crate::lending::lend_draws;
 use crate::shifter::Shifter;
 use runs::Progress;
-use sheets::{Line, Refusal};
+use sheets::{Line, Lists, Refusal};
+use std::alloc::Global;
 
 impl Shifter {
     // Both runs do a line, the second with the paired coins, which are noted.
     pub(crate) fn do_both(
         &self,
+        heap: Global,
         line: Line,
-        coins: &mut [&[u32]],
+        coins: &mut Lists,
         first: &mut Progress,
         second: &mut Progress,
         paired: &mut Vec<Vec<u32>>,
     ) -> Result<(), Refusal>
-        requires { Steady (circle_in self.now.setup) line (of (family coins.old)) (of (family first.old.figures.items)) first.old.held.items (of (family second.old.figures.items)) second.old.held.items }
-        ensures { (s s' : State) → of (family coins.old) ≡ s.coins → Side s first.old.held.items (of (family first.old.figures.items)) → Side s' second.old.held.items (of (family second.old.figures.items)) →
-            BothAs (circle_in self.now.setup) (higher (circle_in self.now.setup) self.now.mask) line s s' (of (family coins.new)) (of (family first.new.figures.items)) first.new.held.items first.old.opened.items first.new.opened.items (of (family second.new.figures.items)) second.new.held.items second.old.opened.items second.new.opened.items (lists_in paired.old) (lists_in paired.new) result }
+        requires { Steady (circle_in self.now.setup) line (numbers coins.old) (numbers first.old.figures) first.old.held.items (numbers second.old.figures) second.old.held.items }
+        ensures { (s s' : State) → numbers coins.old ≡ s.coins → Side s first.old.held.items (numbers first.old.figures) → Side s' second.old.held.items (numbers second.old.figures) →
+            BothAs (circle_in self.now.setup) (higher (circle_in self.now.setup) self.now.mask) line s s' (numbers coins.new) (numbers first.new.figures) first.new.held.items first.old.opened.items first.new.opened.items (numbers second.new.figures) second.new.held.items second.old.opened.items second.new.opened.items (lists_in paired.old) (lists_in paired.new) result }
     {
         let draws = self.paired_draws(line, coins, first, second);
-        let mut lent = lend_draws(&self.setup, line, &draws);
-        append_each(paired, &lent)?;
+        let mut lent = lend_draws(heap, &self.setup, line, &draws)?;
+        append_each(paired, &lent.lists)?;
         first.do_line(&self.setup, line, coins)?;
         second.do_line(&self.setup, line, &mut lent)
     }

@@ -1,11 +1,13 @@
-use Rattle.std.proofs.Common.{ℕ, ◌+◌, List, length, get_or, drop, vec_items, sym, refl, ◌∙◌, subst, Bor}
+use Rattle.std.proofs.Common.{ℕ, ◌+◌, List, length, get_or, drop, vec_items, sym, ap, refl, ◌∙◌, subst, Bor}
 use Rattle.std.proofs.lemmas.List.{length-map, drop_all}
 use Rattle.std.proofs.lemmas.Result.{err_from_is_err_and}
 use Rattle.sheets.specs.Families.{family, of}
+use Rattle.sheets.specs.Numbers.{lists_in, numbers}
+use Rattle.sheets.specs.declared.lists.Lists.{Lists}
 use Rattle.sheets.specs.declared.line.Line.{Line}
 use Rattle.sheets.specs.declared.line.Line.TheVariants.{Input}
 use Rattle.runs.specs.Setups.{circle_in}
-use Rattle.coupling.specs.Growing.{lists}
+use Rattle.coupling.specs.Growing.{lists, Grown}
 use Rattle.coupling.specs.Sides.{higher}
 use Rattle.coupling.proofs.Beside.{Beside, beside_start, beside_here, steady, side, side', s, s', beside-more, beside_end}
 use Rattle.coupling.proofs.running.run_lines.Goals as goal
@@ -15,19 +17,19 @@ loop-line-init c =
     let z = circle_in c.args.shifter.now.setup in
     let g = higher z c.args.shifter.now.mask in
     let ls = c.args.lines.now in
-    let F = of (family c.args.figures.now) in
-    let F' = of (family c.args.other_figures.now) in
-    let C = family c.args.coins.now in
+    let F = numbers c.args.figures in
+    let F' = numbers c.args.other_figures in
+    let C = lists_in c.args.coins in
     let one = c.in_ok-first.ensures in
     let two = c.in_ok-second.ensures in
     let p = c.in_ok-first.first in
     let q = c.in_ok-second.second in
     let paired = lists c.in_ok-paired.paired in
-    subst (λ (xs : List (List ℕ)). Beside z g ls F F' (of C) (length C) ls (of C) (of xs) (vec_items p.held) (vec_items p.opened) (of (family (vec_items q.figures))) (vec_items q.held) (vec_items q.opened) paired) (sym one.whole)
-    (subst (λ (xs : List (List ℕ)). Beside z g ls F F' (of C) (length C) ls (of C) F (vec_items p.held) (vec_items p.opened) (of xs) (vec_items q.held) (vec_items q.opened) paired) (sym two.whole)
+    let as_many = c.in_ok-paired.ensures.0 ∙ (ap length c.deref.ensures.value ∙ sym (length-map c.args.coins.lists.items (λ (r : Bor (List ℕ)). r.now))) in
+    subst (λ (l : Lists). Beside z g ls F F' (of C) (length C) ls (of C) (numbers l) (vec_items p.held) (vec_items p.opened) (numbers q.figures) (vec_items q.held) (vec_items q.opened) paired) (sym one.whole)
+    (subst (λ (l : Lists). Beside z g ls F F' (of C) (length C) ls (of C) F (vec_items p.held) (vec_items p.opened) (numbers l) (vec_items q.held) (vec_items q.opened) paired) (sym two.whole)
     (beside_start z g ls F F' (of C) (length C) (vec_items p.held) (vec_items q.held) (vec_items p.opened) (vec_items q.opened) paired
-    one.unmade two.unmade one.unopened two.unopened
-    (c.in_ok-paired.ensures.0 ∙ sym (length-map c.args.coins.now (λ (r : Bor (List ℕ)). r.now))) c.in_ok-paired.ensures.1
+    one.unmade two.unmade one.unopened two.unopened as_many c.in_ok-paired.ensures.1
     c.requires.well c.requires.figs c.requires.figs' c.requires.enough))
 
 pub do_both-requires : goal.do_both-requires
@@ -35,14 +37,14 @@ do_both-requires c =
     let z = circle_in c.args.shifter.now.setup in
     let g = higher z c.args.shifter.now.mask in
     let ls = c.args.lines.now in
-    let F = of (family c.args.figures.now) in
-    let F' = of (family c.args.other_figures.now) in
-    let C = family c.args.coins.now in
-    let coins = of (family c.loop-line.coins) in
-    let figures = of (family (vec_items c.loop-line.first.figures)) in
+    let F = numbers c.args.figures in
+    let F' = numbers c.args.other_figures in
+    let C = lists_in c.args.coins in
+    let coins = numbers c.loop-line.coins in
+    let figures = numbers c.loop-line.first.figures in
     let rows = vec_items c.loop-line.first.held in
     let shown = vec_items c.loop-line.first.opened in
-    let figures' = of (family (vec_items c.loop-line.second.figures)) in
+    let figures' = numbers c.loop-line.second.figures in
     let rows' = vec_items c.loop-line.second.held in
     let shown' = vec_items c.loop-line.second.opened in
     let paired = lists c.loop-line.paired in
@@ -57,14 +59,14 @@ returns-in_err-do_both c =
     let z = circle_in c.args.shifter.now.setup in
     let g = higher z c.args.shifter.now.mask in
     let ls = c.args.lines.now in
-    let F = of (family c.args.figures.now) in
-    let F' = of (family c.args.other_figures.now) in
-    let C = family c.args.coins.now in
-    let coins = of (family c.loop-line.coins) in
-    let figures = of (family (vec_items c.loop-line.first.figures)) in
+    let F = numbers c.args.figures in
+    let F' = numbers c.args.other_figures in
+    let C = lists_in c.args.coins in
+    let coins = numbers c.loop-line.coins in
+    let figures = numbers c.loop-line.first.figures in
     let rows = vec_items c.loop-line.first.held in
     let shown = vec_items c.loop-line.first.opened in
-    let figures' = of (family (vec_items c.loop-line.second.figures)) in
+    let figures' = numbers c.loop-line.second.figures in
     let rows' = vec_items c.loop-line.second.held in
     let shown' = vec_items c.loop-line.second.opened in
     let paired = lists c.loop-line.paired in
@@ -81,14 +83,14 @@ loop-line-preserved c =
     let z = circle_in c.args.shifter.now.setup in
     let g = higher z c.args.shifter.now.mask in
     let ls = c.args.lines.now in
-    let F = of (family c.args.figures.now) in
-    let F' = of (family c.args.other_figures.now) in
-    let C = family c.args.coins.now in
-    let coins = of (family c.loop-line.coins) in
-    let figures = of (family (vec_items c.loop-line.first.figures)) in
+    let F = numbers c.args.figures in
+    let F' = numbers c.args.other_figures in
+    let C = lists_in c.args.coins in
+    let coins = numbers c.loop-line.coins in
+    let figures = numbers c.loop-line.first.figures in
     let rows = vec_items c.loop-line.first.held in
     let shown = vec_items c.loop-line.first.opened in
-    let figures' = of (family (vec_items c.loop-line.second.figures)) in
+    let figures' = numbers c.loop-line.second.figures in
     let rows' = vec_items c.loop-line.second.held in
     let shown' = vec_items c.loop-line.second.opened in
     let paired = lists c.loop-line.paired in
@@ -97,8 +99,8 @@ loop-line-preserved c =
     let rest = drop (k + 1) ls in
     let h = beside_here z g ls F F' (of C) (length C) k (Input 0) coins figures rows shown figures' rows' shown' paired c.loop-line-test.true c.loop-line.invariant in
     beside-more z g ls F F' (of C) (length C) l rest coins figures rows shown figures' rows' shown' paired h
-    (of (family c.do_both.new.coins)) (of (family (vec_items c.do_both.new.first.figures))) (vec_items c.do_both.new.first.held) (vec_items c.do_both.new.first.opened)
-    (of (family (vec_items c.do_both.new.second.figures))) (vec_items c.do_both.new.second.held) (vec_items c.do_both.new.second.opened) (lists c.do_both.new.paired)
+    (numbers c.do_both.new.coins) (numbers c.do_both.new.first.figures) (vec_items c.do_both.new.first.held) (vec_items c.do_both.new.first.opened)
+    (numbers c.do_both.new.second.figures) (vec_items c.do_both.new.second.held) (vec_items c.do_both.new.second.opened) (lists c.do_both.new.paired)
     (c.in_ok-do_both.ensures (s z g ls F F' (of C) (length C) l rest coins figures rows shown figures' rows' shown' paired h) (s' z g ls F F' (of C) (length C) l rest coins figures rows shown figures' rows' shown' paired h) refl (side z g ls F F' (of C) (length C) l rest coins figures rows shown figures' rows' shown' paired h) (side' z g ls F F' (of C) (length C) l rest coins figures rows shown figures' rows' shown' paired h))
 
 pub returns : goal.returns
@@ -106,17 +108,17 @@ returns c =
     let z = circle_in c.args.shifter.now.setup in
     let g = higher z c.args.shifter.now.mask in
     let ls = c.args.lines.now in
-    let F = of (family c.args.figures.now) in
-    let F' = of (family c.args.other_figures.now) in
-    let C = family c.args.coins.now in
-    let coins = family c.loop-line.coins in
-    let figures = of (family (vec_items c.loop-line.first.figures)) in
+    let F = numbers c.args.figures in
+    let F' = numbers c.args.other_figures in
+    let C = lists_in c.args.coins in
+    let coins = lists_in c.loop-line.coins in
+    let figures = numbers c.loop-line.first.figures in
     let rows = vec_items c.loop-line.first.held in
     let shown = vec_items c.loop-line.first.opened in
-    let figures' = of (family (vec_items c.loop-line.second.figures)) in
+    let figures' = numbers c.loop-line.second.figures in
     let rows' = vec_items c.loop-line.second.held in
     let shown' = vec_items c.loop-line.second.opened in
     let paired = lists c.loop-line.paired in
     beside_end z g ls F F' C coins figures rows shown figures' rows' shown' paired (lists c.append_each.new.lists)
     (subst (λ (left : List Line). Beside z g ls F F' (of C) (length C) left (of coins) figures rows shown figures' rows' shown' paired) (drop_all c.loop-line.line-index ls c.loop-line-test.false) c.loop-line.invariant)
-    c.in_ok-append_each.ensures
+    (subst (λ xs. Grown (lists c.loop-line.paired) (family xs) (lists c.append_each.new.lists)) c.deref-2.ensures.value c.in_ok-append_each.ensures)

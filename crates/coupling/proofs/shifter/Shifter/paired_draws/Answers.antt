@@ -1,9 +1,12 @@
-use Rattle.std.proofs.Common.{◌≡◌, ℕ, ◌+◌, ◌≤◌, T, List, length, sym, ap, ◌∙◌, subst, arith, rules}
+use Rattle.std.proofs.Common.{◌≡◌, ℕ, ◌+◌, ◌≤◌, T, List, length, sym, ap, ◌∙◌, subst, Bor, arith, rules}
 use Rattle.std.proofs.lemmas.List.{length-take, length-set}
 use Rattle.field.specs.Field.{◌⊕◌, below}
 use Rattle.field.proofs.Below.{below-take}
 use Rattle.sheets.specs.Lines.{deals}
 use Rattle.runs.specs.Setups.{circle_in}
+use Rattle.sheets.specs.Families.{family, of}
+use Rattle.sheets.specs.Numbers.{lists_in, numbers}
+use Rattle.sheets.proofs.Checked.{reduced-from}
 use Rattle.coupling.proofs.Draws.{Draw, counted_few, draw_is, place_more, all_below-set}
 use Rattle.coupling.proofs.shifter.Shifter.paired_draws.Goals as goal
 
@@ -11,10 +14,11 @@ pub shift-requires : goal.shift-requires
 shift-requires c =
     let z = circle_in c.args.self.now.setup in
     let list : List ℕ = c.list_of.result.now in
+    let own : list ≡ numbers c.args.coins.now (c.loop-i.i + 1) = c.list_of.ensures ∙ ap (λ (xs : List (Bor (List ℕ))). of (family xs) (c.loop-i.i + 1)) c.deref.ensures.value in
     let few : z.t ≤ 7 = omega arith in
     let count : c.coins_of-count.result ≤ 7 = counted_few (deals z c.args.line (c.loop-i.i + 1)) z.t c.coins_of-count.result 7 (λ d. few) c.coins_of-count.ensures in (
       simp length-take (omega arith),
-      below-take c.coins_of-count.result list (subst (λ (xs : List ℕ). T (below xs)) (sym c.list_of.ensures) (c.requires.coins_small (c.loop-i.i + 1))),
+      below-take c.coins_of-count.result list (subst (λ (xs : List ℕ). T (below xs)) (sym own) (reduced-from (lists_in c.args.coins.now) c.args.coins.now.small (c.loop-i.i + 1))),
     )
 
 pub loop-i-preserved : goal.loop-i-preserved
@@ -26,14 +30,15 @@ loop-i-preserved c = (
       let mask = c.args.self.now.mask in
       let list : List ℕ = c.list_of.result.now in
       let i : ℕ = c.loop-i.i in
+      let own : list ≡ numbers c.args.coins.now (c.loop-i.i + 1) = c.list_of.ensures ∙ ap (λ (xs : List (Bor (List ℕ))). of (family xs) (c.loop-i.i + 1)) c.deref.ensures.value in
       let few : z.t ≤ 7 = omega arith in
       let seven : length c.shift.result ≡ 7 = search rules in
       let eight : length mask ≡ 8 = search rules in
       place_more (Draw z mask c.args.line s s') c.loop-i.draw-items c.shift.result i (omega arith) (c.loop-i.invariant.2 s s' e h h')
       (draw_is z mask c.args.line s s' i c.sum.result c.secret-less.result c.secret-more.result c.coins_of-count.result list c.shift.result
       few eight seven
-      (λ d. subst (λ (xs : List ℕ). z.t ≤ length xs) (sym c.list_of.ensures) (c.requires.enough (i + 1) d))
-      c.coins_of-count.ensures (c.list_of.ensures ∙ ap (λ (f : ℕ → List ℕ). f (i + 1)) e)
+      (λ d. subst (λ (xs : List ℕ). z.t ≤ length xs) (sym own) (c.requires.enough (i + 1) d))
+      c.coins_of-count.ensures (own ∙ ap (λ (f : ℕ → List ℕ). f (i + 1)) e)
       (c.secret-less.ensures.value s h) (c.secret-more.ensures.value s' h')
       (c.sum.ensures.0 ∙ ap (λ (x : ℕ). c.secret-more.result ⊕ x) c.negative.ensures.0) c.shift.ensures.places),
 )
