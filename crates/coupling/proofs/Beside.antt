@@ -1,11 +1,8 @@
 -- Both runs, line after line: what was done, followed by what is left, is the whole.
 use Rattle.std.proofs.Common.{◌≡◌, ℕ, zero, suc, ◌+◌, ◌<◌, cond, T, List, [], ◌∷◌, ◌++◌, map, length, get_or, take, drop, sym, refl, ap, ◌∙◌, subst, ap₂, ⊎_elim, arith}
 use mathlib.Core.Path.{fun_ext}
-use Rattle.std.specs.List.{AllByRecursion as All}
-use Rattle.std.proofs.ByRecursion.{All-append}
 use Rattle.std.proofs.lemmas.List.{append_assoc, append-nil, length-map, drop_more, get_or_past, nil_from_length}
 use Rattle.std.proofs.lemmas.Bool.{cases_lt}
-use Rattle.field.specs.Field.{below}
 use Rattle.field.proofs.Below.{both_parts}
 use Rattle.shares.specs.Circle.{Circle}
 use Rattle.sheets.specs.Lines.{made, good, good_line, gives, deals, figures_needed, coins_needed}
@@ -19,7 +16,7 @@ use Rattle.runs.specs.Run.{State, begun, shares, after, drawn, coins_after, open
 use Rattle.runs.proofs.Dealers.{enough-after, enough_now, figures-below-after, coins_after_lem}
 use Rattle.runs.proofs.Pairs.{shares-same, paired_coins-same, tail_same, Second, second_draw, second_after, draw_whole, paired-length}
 use Rattle.runs.specs.Steps.{in_state}
-use Rattle.runs.proofs.Going.{Small, shares-small, rows_small, made-is}
+use Rattle.runs.proofs.Going.{made-is}
 use Rattle.coupling.specs.Couples.{Coupled}
 use Rattle.coupling.specs.Growing.{Grown}
 use Rattle.coupling.specs.Sides.{Side}
@@ -43,8 +40,6 @@ module _ (z : Circle) (g : List ℕ) (ls : List Line) (F F' C : ℕ → List ℕ
     pub values' : List (ℕ → ℕ)
     pub holds : rows ≡ map row_of values
     pub holds' : rows' ≡ map row_of values'
-    pub small : All Small values
-    pub small' : All Small values'
     pub level : length values' ≡ length values
     pub well : T (good z.n (length values) left)
     pub figs : Figures left figures
@@ -62,8 +57,6 @@ module _ (z : Circle) (g : List ℕ) (ls : List Line) (F F' C : ℕ → List ℕ
     values' = [];
     holds = er;
     holds' = er';
-    small = tt;
-    small' = tt;
     level = refl;
     well = well;
     figs = figs;
@@ -97,8 +90,6 @@ module _ (z : Circle) (g : List ℕ) (ls : List Line) (F F' C : ℕ → List ℕ
             good' = subst (λ (n : ℕ). T (good_line z.n n l)) (sym long') both_good.0;
             enough = λ i d. enough_now (deals z l i) z.t (coins_needed z i rest) (length (coins i)) d (h.enough.enough i);
           };
-          small = subst (All (λ row. T (below row))) (sym h.holds) (rows_small h.values h.small);
-          small' = subst (All (λ row. T (below row))) (sym h.holds') (rows_small h.values' h.small');
           given = λ i d. enough_now (gives l i) 1 (figures_needed i rest) (length (figures i)) d (h.figs.enough i);
           given' = λ i d. enough_now (gives l i) 1 (figures_needed i rest) (length (figures' i)) d (h.figs'.enough i);
         }
@@ -179,8 +170,6 @@ module _ (z : Circle) (g : List ℕ) (ls : List Line) (F F' C : ℕ → List ℕ
         values' = h.values' ++ shares z l (with_coins s' D);
         holds = b.held;
         holds' = b.held';
-        small = All-append Small h.values (shares z l s) h.small (shares-small z l s);
-        small' = All-append Small h.values' (shares z l (with_coins s' D)) h.small' (shares-small z l (with_coins s' D));
         level = made-is z l (with_coins s' D) ∙ (ap (made l) h.level ∙ sym (made-is z l s));
         well = subst (λ (n : ℕ). T (good z.n n rest)) (sym (made-is z l s)) both_good.1;
         figs = figures_after_lem l rest figures h.figs;

@@ -1,7 +1,5 @@
 -- One line of both runs.
 use Rattle.std.specs.Prelude.{◌≡◌, ℕ, ◌+◌, ◌<◌, ◌≤◌, cond, T, List, [], ◌++◌, map, length, Ok, Err, Result, slice_index_or}
-use Rattle.std.specs.List.{AllByRecursion}
-use Rattle.field.specs.Field.{below}
 use Rattle.shares.specs.Circle.{Circle}
 use Rattle.sheets.specs.Lines.{gives, deals}
 use Rattle.sheets.specs.declared.line.Line.{Line}
@@ -15,8 +13,6 @@ use Rattle.coupling.specs.Sides.{Drawable}
 -- a line that both runs can do: it is good, numbers are below p, and nothing runs out
 pub record Steady (z : Circle) (l : Line) (coins figures : ℕ → List ℕ) (rows : List (List ℕ)) (figures' : ℕ → List ℕ) (rows' : List (List ℕ)) : Type 0 where
   pub drawable : Drawable z l coins figures rows figures' rows'
-  pub small : AllByRecursion (λ row. T (below row)) rows
-  pub small' : AllByRecursion (λ row. T (below row)) rows'
   pub given : (i : ℕ) → T (gives l i) → 1 ≤ length (figures i)
   pub given' : (i : ℕ) → T (gives l i) → 1 ≤ length (figures' i)
 

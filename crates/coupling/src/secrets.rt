@@ -22,7 +22,8 @@ pub(crate) fn secret(line: Line, run: &Progress, member: u32) -> u32
             .unwrap_or(0),
         Line::Product(a, b) => {
             let place = member as usize - 1;
-            field::product(run.held[a as usize][place], run.held[b as usize][place])
+            let (a, b) = (&run.held[a as usize], &run.held[b as usize]);
+            field::product(a.shares()[place], b.shares()[place])
         }
         Line::Sum(_, _) | Line::Times(_, _) | Line::Open(_) => 0,
     }

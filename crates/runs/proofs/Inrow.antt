@@ -1,7 +1,7 @@
 -- Rows of 15 words that hold the values of a function of members.
 use Rattle.std.proofs.Common.{◌≡◌, ℕ, ◌+◌, ◌-◌, ◌<◌, ◌≤◌, Bool, ◌&&◌, T, ltb, leb, List, [], ◌∷◌, map, length, get_or, filter, refl, ap, ◌∙◌, arith, ltb→lt, leb→le}
 use Rattle.std.specs.List.{AllByRecursion as All}
-use Rattle.std.proofs.lemmas.List.FromFn.{get_or-map-range_with_len}
+use Rattle.std.proofs.lemmas.List.FromFn.{get_or-map-range_with_len, length-map-range_with_len}
 use Rattle.field.proofs.Below.{both_parts}
 use Rattle.shares.specs.Circle.{members}
 use Rattle.shares.specs.Polynomial.{share_of, dealt}
@@ -41,3 +41,7 @@ row_from f row len h = filled f row 15 len h
 pub dealt-row : (v : ℕ) (coins : List ℕ) → dealt 15 v coins ≡ row_of (share_of v coins)
 unfolding row_of
 dealt-row v coins = refl
+
+pub length-row : (f : ℕ → ℕ) → length (row_of f) ≡ 15
+unfolding row_of
+length-row f = length-map-range_with_len f 1 15

@@ -10,6 +10,7 @@ pub mod Going
 pub mod Inrow
 pub mod Left
 pub mod Lists
+pub mod RowSteps
 pub mod Masks
 pub mod Pairs
 pub mod Producing

@@ -1,13 +1,12 @@
 -- Lines done by the code, each kind in terms of the run.
 use Rattle.std.proofs.Common.{◌≡◌, ℕ, zero, suc, ◌<◌, ◌≤◌, Bool, ◌&&◌, T, ltb, List, [], ◌∷◌, ◌++◌, map, length, get_or, take, Some, Ok, Err, Result, sym, refl, ap, ◌∙◌, subst, ap₂, inl, arith, ltb→lt}
-use Rattle.std.specs.List.{AllByRecursion as All}
 use Rattle.std.proofs.lemmas.List.FromFn.{length-map-range_with_len, take-map-range_with_len}
-use Rattle.std.proofs.ByRecursion.{All-get_or}
 use Rattle.std.proofs.lemmas.List.{append-nil, map-append, get_or_read}
-use Rattle.field.specs.Field.{p, ◌⊕◌, ◌⊗◌, below}
+use Rattle.field.specs.Field.{p, ◌⊕◌, ◌⊗◌}
 use Rattle.field.proofs.Below.{both_parts}
 use Rattle.shares.specs.Circle.{Circle, m, members}
-use Rattle.shares.specs.Polynomial.{share_of}
+use Rattle.shares.specs.Polynomial.{share_of, added, scaled}
+use Rattle.shares.proofs.Linear.{added-map}
 use Rattle.shares.specs.Weights.{weights, dot, joined}
 use Rattle.sheets.specs.Lines.{good_line}
 use Rattle.sheets.specs.declared.line.Line.{Line}
@@ -17,7 +16,6 @@ use Rattle.runs.specs.Row.{row_of}
 use Rattle.runs.specs.Run.{State, share}
 use Rattle.runs.specs.Short.{short_at}
 use Rattle.runs.specs.Steps.{in_state, Entered, Producing, ShownAs, Done, DoneAs}
-use Rattle.runs.proofs.Inrow.{at_place, row_from}
 
 -- rows that hold functions of members, read at a place
 get_or-map : (values : List (ℕ → ℕ)) (a : ℕ) (d : ℕ → ℕ) → get_or (map row_of values) a (row_of d) ≡ row_of (get_or values a d)
@@ -28,9 +26,6 @@ get_or-map (f ∷ values) (suc a) d = get_or-map values a d
 pub row_read : (rows : List (List ℕ)) (values : List (ℕ → ℕ)) (a : ℕ) (x : List ℕ) → rows ≡ map row_of values → a < length rows → x ≡ get_or rows a x → x ≡ row_of (get_or values a (λ j. 0))
 row_read rows values a x e lt is =
     get_or_read rows a x lt is (row_of (λ j. 0)) ∙ (ap (λ (rs : List (List ℕ)). get_or rs a (row_of (λ j. 0))) e ∙ get_or-map values a (λ j. 0))
-
-pub row_small : (rows : List (List ℕ)) (a : ℕ) (x : List ℕ) → All (λ row. T (below row)) rows → a < length rows → x ≡ get_or rows a x → T (below x)
-row_small rows a x h lt is = subst (λ (row : List ℕ). T (below row)) (sym is) (All-get_or (λ row. T (below row)) rows a x lt h)
 
 -- the values that a line names are there
 two_there : (a b k : ℕ) → T (ltb a k && ltb b k) → (a < k) × (b < k)
@@ -48,6 +43,18 @@ module _ (n k : ℕ) (l : Line) (t : T (good_line n k l)) where
 
   pub good_open : (a : ℕ) → l ≡ Open a → a < k
   good_open a e = ltb→lt a k (subst (λ (x : Line). T (good_line n k x)) e t)
+
+added-rows : (f g : ℕ → ℕ) → added (row_of f) (row_of g) ≡ row_of (λ j. f j ⊕ g j)
+unfolding row_of
+added-rows f g = added-map f g (members 15)
+
+scaled-map : (k : ℕ) (f : ℕ → ℕ) (xs : List ℕ) → scaled k (map f xs) ≡ map (λ j. k ⊗ f j) xs
+scaled-map k f [] = refl
+scaled-map k f (x ∷ xs) = ap (λ (ys : List ℕ). k ⊗ f x ∷ ys) (scaled-map k f xs)
+
+scaled-row : (k : ℕ) (f : ℕ → ℕ) → scaled k (row_of f) ≡ row_of (λ j. k ⊗ f j)
+unfolding row_of
+scaled-row k f = scaled-map k f (members 15)
 
 module _ (z : Circle) (c : ℕ → Bool) (values : List (ℕ → ℕ)) (rows rows' : List (List ℕ)) (figures coins : ℕ → List ℕ) (shown seen : List ℕ) (holds : rows ≡ map row_of values) where
   abbrev s : State
@@ -72,34 +79,29 @@ module _ (z : Circle) (c : ℕ → Bool) (values : List (ℕ → ℕ)) (rows row
         noted = h.noted;
       })
 
-  pub done_sum : (l : Line) (a b : ℕ) → l ≡ Sum a b → (x y row : List ℕ) → a < length rows → b < length rows → x ≡ get_or rows a x → y ≡ get_or rows b y → length row ≡ 15 →
-      ((k : ℕ) → k < 15 → get_or row k 0 ≡ get_or x k 0 ⊕ get_or y k 0) → rows' ≡ rows ++ row ∷ [] → Done z c l s rows' figures coins shown shown seen seen
-  done_sum l a b is x y row la lb ex ey len each k =
+  pub done_sum : (l : Line) (a b : ℕ) → l ≡ Sum a b → (x y : List ℕ) → a < length rows → b < length rows → x ≡ get_or rows a x → y ≡ get_or rows b y → rows' ≡ rows ++ added x y ∷ [] → Done z c l s rows' figures coins shown shown seen seen
+  done_sum l a b is x y la lb ex ey k =
       let f : ℕ → ℕ = share s a in
       let g : ℕ → ℕ = share s b in
-      let e : row ≡ row_of (λ j. f j ⊕ g j) =
-      row_from (λ j. f j ⊕ g j) row len (λ i lt. each i lt
-      ∙ ap₂ (λ (u v : ℕ). u ⊕ v) (at_place f x i lt (row_read rows values a x holds la ex)) (at_place g y i lt (row_read rows values b y holds lb ey))) in
+      let e : added x y ≡ row_of (λ j. f j ⊕ g j) = ap₂ added (row_read rows values a x holds la ex) (row_read rows values b y holds lb ey) ∙ added-rows f g in
       subst (λ (l : Line). Done z c l s rows' figures coins shown shown seen seen) (sym is)
       (record {
         enough = refl;
-        held = held_more row (λ j. f j ⊕ g j) e k;
+        held = held_more (added x y) (λ j. f j ⊕ g j) e k;
         taken = refl;
         moved = refl;
         opens = sym (append-nil shown);
         noted = sym (append-nil seen);
       })
 
-  pub done_times : (l : Line) (factor a : ℕ) → l ≡ Times factor a → (x row : List ℕ) → a < length rows → x ≡ get_or rows a x → length row ≡ 15 →
-      ((k : ℕ) → k < 15 → get_or row k 0 ≡ factor ⊗ get_or x k 0) → rows' ≡ rows ++ row ∷ [] → Done z c l s rows' figures coins shown shown seen seen
-  done_times l factor a is x row la ex len each k =
+  pub done_times : (l : Line) (factor a : ℕ) → l ≡ Times factor a → (x : List ℕ) → a < length rows → x ≡ get_or rows a x → rows' ≡ rows ++ scaled factor x ∷ [] → Done z c l s rows' figures coins shown shown seen seen
+  done_times l factor a is x la ex k =
       let f : ℕ → ℕ = share s a in
-      let e : row ≡ row_of (λ j. factor ⊗ f j) =
-      row_from (λ j. factor ⊗ f j) row len (λ i lt. each i lt ∙ ap (λ (u : ℕ). factor ⊗ u) (at_place f x i lt (row_read rows values a x holds la ex))) in
+      let e : scaled factor x ≡ row_of (λ j. factor ⊗ f j) = ap (scaled factor) (row_read rows values a x holds la ex) ∙ scaled-row factor f in
       subst (λ (l : Line). Done z c l s rows' figures coins shown shown seen seen) (sym is)
       (record {
         enough = refl;
-        held = held_more row (λ j. factor ⊗ f j) e k;
+        held = held_more (scaled factor x) (λ j. factor ⊗ f j) e k;
         taken = refl;
         moved = refl;
         opens = sym (append-nil shown);

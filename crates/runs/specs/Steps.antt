@@ -1,12 +1,11 @@
 -- What the parts of a line do, each in terms of the run.
 use Rattle.std.specs.Prelude.{◌≡◌, ℕ, ◌<◌, ◌≤◌, Bool, true, false, cond, T, ◌⊎◌, List, [], ◌∷◌, ◌++◌, map, length, take, Some, None, Ok, Err, Result, nat_lt, slice_index}
-use Rattle.std.specs.List.{flat_map, AllByRecursion}
+use Rattle.std.specs.List.{flat_map}
 use Rattle.field.specs.Field.{◌⊗◌, below}
 use Rattle.shares.specs.Circle.{Circle, m, members}
 use Rattle.shares.specs.Polynomial.{share_of}
 use Rattle.shares.specs.Weights.{joined}
 use Rattle.sheets.specs.Drawing.{after as after_drawing}
-use Rattle.sheets.specs.Lines.{good_line}
 use Rattle.sheets.specs.Meaning.{figures_after}
 use Rattle.std.specs.List.{list_any}
 use Rattle.sheets.specs.declared.line.Line.{Line}
@@ -91,11 +90,6 @@ abbrev pub ShownAs : Circle → (ℕ → ℕ) → List ℕ → List ℕ → List
 ShownAs z f opened opened' seen seen' (Ok u) =
     (opened' ≡ opened ++ joined (m z) (map f (members z.n)) ∷ []) × (seen' ≡ seen ++ map f (members z.n))
 ShownAs z f opened opened' seen seen' (Err e) = e ≡ NoMemory
-
--- what a line asks of the rows held and the lists left
-pub record Ready (z : Circle) (l : Line) (rows : List (List ℕ)) (figures coins : ℕ → List ℕ) : Type 0 where
-  pub good : T (good_line z.n (length rows) l)
-  pub small : AllByRecursion (λ row. T (below row)) rows
 
 -- a line is done, from a state of which the rows are held
 pub record Done (z : Circle) (c : ℕ → Bool) (l : Line) (s : State) (rows' : List (List ℕ)) (figures' coins' : ℕ → List ℕ) (shown shown' seen seen' : List ℕ) : Type 0 where

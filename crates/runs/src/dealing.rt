@@ -25,8 +25,7 @@ impl Setup {
         let Some(drawn) = coins.draw(member, self.t) else {
             return Err(Refusal::NoCoins);
         };
-        let mut row = [0; 15];
-        shares::deal(secret, drawn, &mut row);
+        let row = Row::deal(secret, drawn);
         self.note_shares(&row, seen)?;
         Ok(row)
     }

@@ -1,14 +1,14 @@
 // A run, line by line.
-ghost use Rattle.std.specs.Prelude.{◌≡◌, ℕ, List, map};
+ghost use Rattle.std.specs.Prelude.{◌≡◌, ℕ, T, List, length, map};
 ghost use Rattle.runs.specs.Progress.{StartedAs};
 ghost use Rattle.runs.specs.Row.{row_of};
 ghost use Rattle.runs.specs.Setups.{circle_in};
-ghost use Rattle.runs.specs.Steps.{in_state, Ready, DoneAs};
+ghost use Rattle.runs.specs.Steps.{in_state, DoneAs};
 ghost use Rattle.runs.specs.Watching.{watches};
+ghost use Rattle.sheets.specs.Lines.{good_line};
 ghost use Rattle.sheets.specs.Numbers.{numbers};
 
 use crate::progress::Progress;
-use crate::row::{multiple, sum};
 use crate::setup::Setup;
 use sheets::{Line, Lists, Refusal};
 use std::alloc::Global;
@@ -32,13 +32,13 @@ impl<'a> Progress<'a> {
     }
 
     pub fn do_line(&mut self, setup: &Setup, line: Line, coins: &mut Lists) -> Result<(), Refusal>
-        requires { Ready (circle_in setup.now) line self.old.held.items (numbers self.old.figures) (numbers coins.old) }
+        requires { T (good_line setup.now.n (length self.old.held.items) line) }
         ensures { (values : List (ℕ → ℕ)) → self.old.held.items ≡ map row_of values → DoneAs (circle_in setup.now) (watches setup.now.watched) line (in_state values (numbers self.old.figures) (numbers coins.old)) self.new.held.items (numbers self.new.figures) (numbers coins.new) self.old.opened.items self.new.opened.items self.old.seen.items self.new.seen.items result }
     {
         let row = match line {
             Line::Input(member) => setup.put_in(member, &mut self.figures, coins, &mut self.seen)?,
-            Line::Sum(a, b) => sum(&self.held[a as usize], &self.held[b as usize]),
-            Line::Times(factor, a) => multiple(factor, &self.held[a as usize]),
+            Line::Sum(a, b) => self.held[a as usize].sum(&self.held[b as usize]),
+            Line::Times(factor, a) => self.held[a as usize].multiple(factor),
             Line::Product(a, b) => {
                 let (a, b) = (&self.held[a as usize], &self.held[b as usize]);
                 setup.multiply(a, b, coins, &mut self.seen)?

@@ -37,7 +37,7 @@ impl Setup {
     pub(crate) fn note_shares(&self, row: &Row, seen: &mut Vec<u32>) -> Result<(), Refusal>
         ensures { Appended (picked (watches self.now.watched) self.now.n row.now) seen.old.items seen.new.items result }
     {
-        for (share, watched) in row.iter().zip(&self.watched[..self.n]) {
+        for (share, watched) in row.shares().iter().zip(&self.watched[..self.n]) {
             if *watched {
                 seen.push(*share)?;
             }

@@ -18,9 +18,9 @@ impl Setup {
     ) -> Result<(), Refusal>
         ensures { (f : ℕ → ℕ) → row.now ≡ row_of f → ShownAs (circle_in self.now) f opened.old.items opened.new.items seen.old.items seen.new.items result }
     {
-        seen.extend_from_slice(&row[..self.n])?;
+        seen.extend_from_slice(&row.shares()[..self.n])?;
         let joined = &self.weights[..self.t + self.t + 1];
-        opened.push(shares::join(joined, row))?;
+        opened.push(shares::join(joined, row.shares()))?;
         Ok(())
     }
 }

@@ -8,7 +8,7 @@ ghost use Rattle.shares.specs.Circle.{members};
 ghost use Rattle.sheets.specs.Numbers.{numbers};
 ghost use Rattle.std.specs.List.{list_any};
 
-use crate::row::{Row, add_weighted};
+use crate::row::Row;
 use crate::setup::Setup;
 use sheets::{Lists, Refusal};
 
@@ -38,13 +38,13 @@ impl Setup {
         requires { list_any (lacks (circle_in self.now) (numbers coins.old)) (members self.now.n) ≡ false }
         ensures { (f g : ℕ → ℕ) → a.now ≡ row_of f → b.now ≡ row_of g → MultipliedAs (circle_in self.now) (watches self.now.watched) f g (numbers coins.old) (numbers coins.new) seen.old.items seen.new.items result }
     {
-        let mut made = [0; 15];
+        let mut made = Row::zero();
         // i is the place of one member in two rows and among the weights.
         for i in 0..self.n {
-            let secret = field::product(a[i], b[i]);
+            let secret = field::product(a.shares()[i], b.shares()[i]);
             let row = self.deal_out(i as u32 + 1, secret, coins, seen)?;
             if i < self.t + self.t + 1 {
-                add_weighted(&mut made, self.weights[i], &row);
+                made.add_weighted(self.weights[i], &row);
             }
         }
         Ok(made)

@@ -13,6 +13,6 @@ returns-in-Product-clause-value c s h =
     secret_product c.args.line c.in-Product.a c.in-Product.b c.args.member c.product.result s held (numbers c.args.run.now.figures) c.in-Product.is there c.requires.1 c.requires.2
     (c.product.ensures.0
     ∙ ap₂ (λ (x y : List _). get_or x (c.args.member - 1) 0 ⊗ get_or y (c.args.member - 1) 0)
-    (get_or_read held c.in-Product.a c.index.result.now there.0 c.index.ensures [])
-    (get_or_read held c.in-Product.b c.index-in-Product.result.now there.1 c.index-in-Product.ensures []))
+    (c.shares.ensures ∙ get_or_read held c.in-Product.a c.index.result.now there.0 c.index.ensures [])
+    (c.shares-in-Product.ensures ∙ get_or_read held c.in-Product.b c.index-in-Product.result.now there.1 c.index-in-Product.ensures []))
     h

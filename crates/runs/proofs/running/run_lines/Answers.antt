@@ -4,7 +4,7 @@ use Rattle.sheets.specs.Numbers.{numbers}
 use Rattle.sheets.specs.declared.lists.Lists.{Lists}
 use Rattle.runs.specs.Setups.{circle_in}
 use Rattle.runs.specs.Watching.{watches}
-use Rattle.runs.proofs.Going.{Going, going_none, going_ready, going_short, going_more, going_all}
+use Rattle.runs.proofs.Going.{Going, going_none, going_good, going_short, going_more, going_all}
 use Rattle.runs.proofs.running.run_lines.Goals as goal
 
 pub loop-line-init : goal.loop-line-init
@@ -21,7 +21,7 @@ loop-line-init c =
 pub do_line-requires : goal.do_line-requires
 do_line-requires c =
     let p = c.loop-line.progress in
-    going_ready (circle_in c.args.setup.now) (watches c.args.setup.now.watched) c.args.lines.now (numbers c.args.figures) (numbers c.args.coins.now)
+    going_good (circle_in c.args.setup.now) (watches c.args.setup.now.watched) c.args.lines.now (numbers c.args.figures) (numbers c.args.coins.now)
     c.loop-line.line-index _ (vec_items p.held) (numbers p.figures) (numbers c.loop-line.coins) (vec_items p.opened) (vec_items p.seen)
     c.loop-line-test.true c.loop-line.invariant
 

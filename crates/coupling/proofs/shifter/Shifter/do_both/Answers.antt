@@ -22,7 +22,7 @@ returns-in_err-do_line c s s' e h h' =
     (c.in_err-do_line.ensures s.held h.same_rows))
 
 pub do_line-requires-2 : goal.do_line-requires-2
-do_line-requires-2 c = record { good = c.requires.drawable.good'; small = c.requires.small' }
+do_line-requires-2 c = c.requires.drawable.good'
 
 pub returns : goal.returns
 returns c s s' e h h' =

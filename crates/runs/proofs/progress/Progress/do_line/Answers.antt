@@ -1,4 +1,4 @@
-use Rattle.std.proofs.Common.{◌≡◌, List, [], ◌∷◌, ◌++◌, length, vec_items, ap₂, ◌∙◌, inl, inr, rules}
+use Rattle.std.proofs.Common.{◌≡◌, List, [], ◌∷◌, ◌++◌, length, vec_items, ap₂, ◌∙◌, inl, inr}
 use Rattle.std.proofs.lemmas.Result.{err_from_is_err_and}
 use Rattle.sheets.specs.Numbers.{numbers}
 use Rattle.runs.specs.Run.{share}
@@ -6,17 +6,9 @@ use Rattle.runs.specs.Setups.{circle_in}
 use Rattle.runs.specs.Steps.{in_state}
 use Rattle.runs.specs.Watching.{watches}
 use Rattle.runs.specs.declared.progress.Progress.{Progress}
-use Rattle.runs.proofs.Stepped.{row_read, row_small, good_sum, good_times, good_product, good_open, done_input, done_sum, done_times, done_product, done_open, product_short}
+use Rattle.runs.proofs.Stepped.{row_read, good_sum, good_times, good_product, good_open, done_input, done_sum, done_times, done_product, done_open, product_short}
 use Rattle.runs.proofs.progress.Progress.do_line.Goals as goal
 use Rattle.runs.proofs.progress.Progress.do_line.Goals.{in-Input+in_ok-row-in-Input, in-Sum, in-Times, in-Product+in_ok-row-in-Product}
-
-pub sum-row-requires : goal.sum-row-requires
-sum-row-requires c =
-    let rows = vec_items c.args.self.now.held in
-    let there = good_sum c.args.setup.now.n (length rows) c.args.line c.requires.good c.in-Sum.a c.in-Sum.b c.in-Sum.is in (
-      row_small rows c.in-Sum.a c.index.result.now c.requires.small there.0 c.index.ensures,
-      row_small rows c.in-Sum.b c.index-in-Sum.result.now c.requires.small there.1 c.index-in-Sum.ensures,
-    )
 
 pub returns : goal.returns
 returns c values e =
@@ -36,23 +28,21 @@ returns c values e =
           (done_input z watching values rows kept figures coins (vec_items p.opened) (vec_items p.seen) e
           c.args.line w.in-Input.member w.in-Input.is (numbers w.put_in.new.figures) (numbers w.put_in.new.coins) (vec_items w.put_in.new.seen) row w.in_ok-row-in-Input.ensures pushed)
       | in-Sum w ↦
-          let there = good_sum c.args.setup.now.n (length rows) c.args.line c.requires.good w.in-Sum.a w.in-Sum.b w.in-Sum.is in
-          let long : length w.sum-row.result ≡ 15 = search rules in
-          let pushed : kept ≡ rows ++ w.sum-row.result ∷ [] = c.in_ok-push.ensures.items ∙ ap₂ (λ (q : Progress) (r : List _). vec_items q.held ++ r ∷ []) w.self-is w.row-is in
+          let there = good_sum c.args.setup.now.n (length rows) c.args.line c.requires w.in-Sum.a w.in-Sum.b w.in-Sum.is in
+          let pushed = c.in_ok-push.ensures.items ∙ ap₂ (λ (q : Progress) (r : List _). vec_items q.held ++ r ∷ []) w.self-is (w.row-is ∙ w.sum-row.ensures) in
           rw (w.self-is, w.coins-is)
           (done_sum z watching values rows kept figures coins (vec_items p.opened) (vec_items p.seen) e
-          c.args.line w.in-Sum.a w.in-Sum.b w.in-Sum.is w.index.result.now w.index-in-Sum.result.now w.sum-row.result
-          there.0 there.1 w.index.ensures w.index-in-Sum.ensures long w.sum-row.ensures pushed)
+          c.args.line w.in-Sum.a w.in-Sum.b w.in-Sum.is w.index.result.now w.index-in-Sum.result.now
+          there.0 there.1 w.index.ensures w.index-in-Sum.ensures pushed)
       | in-Times w ↦
-          let there = good_times c.args.setup.now.n (length rows) c.args.line c.requires.good w.in-Times.factor w.in-Times.a w.in-Times.is in
-          let long : length w.multiple-row.result ≡ 15 = search rules in
-          let pushed : kept ≡ rows ++ w.multiple-row.result ∷ [] = c.in_ok-push.ensures.items ∙ ap₂ (λ (q : Progress) (r : List _). vec_items q.held ++ r ∷ []) w.self-is w.row-is in
+          let there = good_times c.args.setup.now.n (length rows) c.args.line c.requires w.in-Times.factor w.in-Times.a w.in-Times.is in
+          let pushed = c.in_ok-push.ensures.items ∙ ap₂ (λ (q : Progress) (r : List _). vec_items q.held ++ r ∷ []) w.self-is (w.row-is ∙ w.multiple-row.ensures) in
           rw (w.self-is, w.coins-is)
           (done_times z watching values rows kept figures coins (vec_items p.opened) (vec_items p.seen) e
-          c.args.line w.in-Times.factor w.in-Times.a w.in-Times.is w.index-in-Times.result.now w.multiple-row.result
-          there w.index-in-Times.ensures long w.multiple-row.ensures pushed)
+          c.args.line w.in-Times.factor w.in-Times.a w.in-Times.is w.index-in-Times.result.now
+          there w.index-in-Times.ensures pushed)
       | in-Product+in_ok-row-in-Product w ↦
-          let there = good_product c.args.setup.now.n (length rows) c.args.line c.requires.good w.in-Product.a w.in-Product.b w.in-Product.is in
+          let there = good_product c.args.setup.now.n (length rows) c.args.line c.requires w.in-Product.a w.in-Product.b w.in-Product.is in
           let row = w.in_ok-row-in-Product.row in
           let pushed : kept ≡ rows ++ row ∷ [] = c.in_ok-push.ensures.items ∙ ap₂ (λ (q : Progress) (r : List _). vec_items q.held ++ r ∷ []) w.self-is w.row-is in
           rw (w.self-is, w.coins-is)
@@ -68,7 +58,7 @@ pub returns-in_err-row-in-Product : goal.returns-in_err-row-in-Product
 returns-in_err-row-in-Product c values e =
     let rows = vec_items c.args.self.now.held in
     let s = in_state values (numbers c.args.self.now.figures) (numbers c.args.coins.now) in
-    let there = good_product c.args.setup.now.n (length rows) c.args.line c.requires.good c.in-Product.a c.in-Product.b c.in-Product.is in
+    let there = good_product c.args.setup.now.n (length rows) c.args.line c.requires c.in-Product.a c.in-Product.b c.in-Product.is in
     let h = c.in_err-row-in-Product.ensures (share s c.in-Product.a) (share s c.in-Product.b)
     (row_read rows values c.in-Product.a c.index-in-Product.result.now e there.0 c.index-in-Product.ensures)
     (row_read rows values c.in-Product.b c.index-in-Product-2.result.now e there.1 c.index-in-Product-2.ensures) in
@@ -84,7 +74,7 @@ returns-in-Open c values e =
     let p = c.args.self.now in
     let rows = vec_items p.held in
     let s = in_state values (numbers p.figures) (numbers c.args.coins.now) in
-    let there = good_open c.args.setup.now.n (length rows) c.args.line c.requires.good c.in-Open.a c.in-Open.is in
+    let there = good_open c.args.setup.now.n (length rows) c.args.line c.requires c.in-Open.a c.in-Open.is in
     done_open (circle_in c.args.setup.now) (watches c.args.setup.now.watched) values rows rows
     (numbers p.figures) (numbers c.args.coins.now) (vec_items p.opened) (vec_items p.seen) e
     c.args.line c.in-Open.a c.in-Open.is (vec_items c.show.new.opened) (vec_items c.show.new.seen) c.show.result

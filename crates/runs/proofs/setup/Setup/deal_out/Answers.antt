@@ -1,18 +1,17 @@
-use Rattle.std.proofs.Common.{◌≡◌, length, vec_items, rules}
+use Rattle.std.proofs.Common.{vec_items, rules}
 use Rattle.sheets.specs.Numbers.{numbers}
 use Rattle.runs.specs.Setups.{circle_in}
 use Rattle.runs.specs.Watching.{watches}
 use Rattle.runs.proofs.Dealt.{dealt_out}
 use Rattle.runs.proofs.setup.Setup.deal_out.Goals as goal
 
-pub deal-requires : goal.deal-requires
-deal-requires c = (c.requires, c.in-Some.ensures.small, search rules)
+pub deal-row-requires : goal.deal-row-requires
+deal-row-requires c = (c.requires, c.in-Some.ensures.small)
 
 pub returns : goal.returns
 returns c =
     let drew = c.in-Some.ensures.drawn in
-    let long : length c.deal.new.shares ≡ 15 = search rules in
     dealt_out (circle_in c.args.self.now) (watches c.args.self.now.watched) c.args.member c.args.secret
     (numbers c.args.coins.now) (numbers c.draw.new.self) (vec_items c.args.seen.now) (vec_items c.note_shares.new.seen)
-    c.deal.new.shares c.in-Some.drawn.now
-    (search rules) drew.0 drew.1 drew.2 c.deal.ensures c.in_ok-note_shares.ensures
+    c.deal-row.result c.in-Some.drawn.now
+    (search rules) drew.0 drew.1 drew.2 c.deal-row.ensures c.in_ok-note_shares.ensures

@@ -1,4 +1,4 @@
-use Rattle.std.proofs.Common.{◌≡◌, ℕ, ◌+◌, ◌<◌, List, length, get_or, replicate, vec_items, sym, refl, ap, ◌∙◌, subst, inl, inr, rules}
+use Rattle.std.proofs.Common.{◌≡◌, ℕ, ◌+◌, ◌<◌, List, length, get_or, take, vec_items, sym, ap, ap₂, ◌∙◌, subst, inl, inr, arith, lit<, rules}
 use Rattle.std.proofs.lemmas.Result.{err_from_is_err_and}
 use Rattle.field.specs.Field.{p, ◌⊕◌, ◌⊗◌}
 use Rattle.field.proofs.Ring.{⊕-below}
@@ -8,17 +8,21 @@ use Rattle.sheets.specs.Drawing.{after}
 use Rattle.sheets.specs.Numbers.{numbers}
 use Rattle.runs.specs.Setups.{circle_in}
 use Rattle.runs.specs.Watching.{watches}
-use Rattle.runs.proofs.Producing.{drawn_by, drawn_none, drawn_more, never_short, zeros, zeros_below, weight_at, dealings_none, dealings_more, dealings_skip, dealings_all}
+use Rattle.runs.proofs.Producing.{drawn_by, drawn_none, drawn_more, never_short, zeros, weight_at, dealings_none, dealings_more, dealings_skip, dealings_all}
+use Rattle.shares.specs.Polynomial.{share_of}
+use Rattle.runs.proofs.Inrow.{length-row}
+use Rattle.runs.proofs.RowSteps.{get_or-weighted, length-weighted}
 use Rattle.runs.proofs.setup.Setup.deal_products.Goals as goal
 use Rattle.runs.proofs.setup.Setup.deal_products.Goals.{then-i-self, else-i-self}
 
 pub loop-i-init : goal.loop-i-init
-loop-i-init c = (
-  refl,
-  drawn_none c.args.self.now.t (numbers c.args.coins.now),
-  zeros_below,
-  λ f g ea eb. dealings_none (circle_in c.args.self.now) (watches c.args.self.now.watched) f g (numbers c.args.coins.now) (vec_items c.args.seen.now) (replicate 15 0) zeros,
-)
+loop-i-init c =
+    let empty : (j : ℕ) → j < 15 → get_or c.zero-made.result j 0 ≡ 0 = λ j lt. ap (λ (xs : List ℕ). get_or xs j 0) c.zero-made.ensures ∙ zeros j lt in (
+      ap length c.zero-made.ensures,
+      drawn_none c.args.self.now.t (numbers c.args.coins.now),
+      λ j lt. subst (λ (x : ℕ). x < p) (sym (empty j lt)) (lit< tt),
+      λ f g ea eb. dealings_none (circle_in c.args.self.now) (watches c.args.self.now.watched) f g (numbers c.args.coins.now) (vec_items c.args.seen.now) c.zero-made.result empty,
+    )
 
 pub deal_out-requires : goal.deal_out-requires
 deal_out-requires c = c.product-secret.ensures.1
@@ -32,9 +36,6 @@ returns-in_err-row c f g ea eb =
       | inr h ↦ absurd (never_short (circle_in c.args.self.now) (numbers c.args.coins.now) (numbers c.loop-i.coins) c.loop-i.i c.requires c.loop-i-test.true c.loop-i.invariant.1 h.1)
     ])
 
-pub add_weighted-requires : goal.add_weighted-requires
-add_weighted-requires c = c.loop-i.invariant.2
-
 pub loop-i-preserved : goal.loop-i-preserved
 loop-i-preserved c =
     let z = circle_in c.args.self.now in
@@ -46,13 +47,15 @@ loop-i-preserved c =
     let moved : numbers c.deal_out.new.coins ≡ drawn_by c.args.self.now.t (k + 1) C =
     d.moved ∙ (ap (after (k + 1) c.args.self.now.t) c.loop-i.invariant.1 ∙ drawn_more c.args.self.now.t k C) in
     let few = c.args.self.now.few in
-    let secret = c.product-secret.ensures.0 in
+    let secret = c.product-secret.ensures.0 ∙ ap₂ (λ (xs ys : List ℕ). get_or xs k 0 ⊗ get_or ys k 0) c.shares.ensures c.shares-in-loop-i.ensures in
+    let long : length row ≡ 15 = ap length d.sent ∙ length-row (share_of c.product-secret.result (take z.t (numbers c.loop-i.coins (k + 1)))) in
     elim c.if-i-self.branch [
       | then-i-self w ↦
           let each : (j : ℕ) → j < 15 → get_or c.if-i-self.made j 0 ≡ get_or c.loop-i.made j 0 ⊕ get_or (weights (m z)) k 0 ⊗ get_or row j 0 =
-          λ j lj. ap (λ (xs : List ℕ). get_or xs j 0) w.made-is ∙ (w.add_weighted.ensures j lj
+          λ j lj. ap (λ (xs : List ℕ). get_or xs j 0) (w.made-is ∙ w.add_weighted.ensures)
+          ∙ (get_or-weighted (get_or c.args.self.now.weights k 0) c.loop-i.made row j (long ∙ sym c.loop-i.invariant.0) (omega (arith, c.loop-i.invariant.0))
           ∙ ap (λ (x : ℕ). get_or c.loop-i.made j 0 ⊕ x ⊗ get_or row j 0) (weight_at z c.args.self.now.weights k c.args.self.now.weighs w.if-i-self.true)) in (
-            ap length w.made-is ∙ search rules,
+            ap length (w.made-is ∙ w.add_weighted.ensures) ∙ (length-weighted (get_or c.args.self.now.weights k 0) c.loop-i.made row (long ∙ sym c.loop-i.invariant.0) ∙ c.loop-i.invariant.0),
             moved,
             λ j lj. subst (λ (x : ℕ). x < p) (sym (each j lj)) (⊕-below (get_or c.loop-i.made j 0) (get_or (weights (m z)) k 0 ⊗ get_or row j 0)),
             λ f g ea eb. dealings_more z watching f g C c.args.a.now c.args.b.now k c.product-secret.result (numbers c.loop-i.coins) (numbers c.deal_out.new.coins)

@@ -7,6 +7,6 @@ pub returns : goal.returns
 returns c f e = (
   c.in_ok-push.ensures.items
       ∙ ap (λ (v : ℕ). vec_items c.args.opened.now ++ v ∷ [])
-      (joined-row (circle_in c.args.self.now) f c.args.row.now _ c.join.result c.args.self.now.few c.args.self.now.enough e c.args.self.now.weighs c.join.ensures.0),
-  c.in_ok-extend_from_slice.ensures.items ∙ ap (λ (xs : List ℕ). vec_items c.args.seen.now ++ xs) (front_row f c.args.row.now c.args.self.now.n c.args.self.now.few e),
+      (joined-row (circle_in c.args.self.now) f c.shares-2.result.now _ c.join.result c.args.self.now.few c.args.self.now.enough (c.shares-2.ensures ∙ e) c.args.self.now.weighs c.join.ensures.0),
+  c.in_ok-extend_from_slice.ensures.items ∙ ap (λ (xs : List ℕ). vec_items c.args.seen.now ++ xs) (front_row f c.shares.result.now c.args.self.now.n c.args.self.now.few (c.shares.ensures ∙ e)),
 )
