@@ -29,10 +29,10 @@ module _ {X : Type 0} (one : List ℕ → Option (Got X)) (n : ℕ) where
   unfolding each
   each-suc i rest h = let e : n - i ≡ suc (n - (i + 1)) = omega arith in rw e
 
-  pub each_more : (i : ℕ) (done : List X) (rest bytes : List ℕ) (x : X) (after : List ℕ) → i < n → one rest ≡ Some (record { what = x; rest = after }) → So i done rest bytes → So (i + 1) (done ++ x ∷ []) after bytes
-  each_more i done rest bytes x after h e inv =
+  pub each_more : (i : ℕ) (done new : List X) (rest bytes : List ℕ) (x : X) (after : List ℕ) → i < n → one rest ≡ Some (record { what = x; rest = after }) → new ≡ done ++ x ∷ [] → So i done rest bytes → So (i + 1) new after bytes
+  each_more i done new rest bytes x after h e q inv =
       let first : each one (n - i) rest ≡ option_map (λ xs. x ∷ xs) (each one (n - (i + 1)) after) = rw e at (each-suc i rest h) in
-      sym (prefixed_cons done x (each one (n - (i + 1)) after)) ∙ (ap (prefixed done) (sym first) ∙ inv)
+      rw q (sym (prefixed_cons done x (each one (n - (i + 1)) after)) ∙ (ap (prefixed done) (sym first) ∙ inv))
 
   pub each_stop : (i : ℕ) (done : List X) (rest bytes : List ℕ) → i < n → one rest ≡ None → So i done rest bytes → each one n bytes ≡ None
   each_stop i done rest bytes h e inv =
@@ -59,8 +59,8 @@ module _ {X : Type 0} (one : List ℕ → Option (Got X)) (n : ℕ) where
       sym inv ∙ (rw (e, each-zero-nil rest none, append-nil done))
 
 -- one more list, where f takes a list out of an element
-pub one_more : {X : Type 0} (f : X → List ℕ) (new old mid : List X) (x : X) (xs : List ℕ) → new ≡ mid ++ x ∷ [] → mid ≡ old → f x ≡ xs → map f new ≡ map f old ++ xs ∷ []
-one_more f new old mid x xs n m e = rw (n, m, map_push f old x, e)
+pub one_more : {X : Type 0} (f : X → List ℕ) (new old : List X) (x : X) (xs : List ℕ) → new ≡ old ++ x ∷ [] → f x ≡ xs → map f new ≡ map f old ++ xs ∷ []
+one_more f new old x xs n e = rw (n, map_push f old x, e)
 
 pub figures_none : (bytes : List ℕ) → cut bytes ≡ None → figures_one bytes ≡ None
 figures_none bytes e = rw e

@@ -21,14 +21,13 @@ word_below : (w : ℕ) (ws : List ℕ) → T (below (w ∷ ws)) → (w < 4294967
 word_below w ws t = let h = both_parts (ltb w p) (below ws) t in let l = ltb→lt w p h.0 in (omega arith, h.1)
 
 words_bytes : (ws : List ℕ) → T (below ws) → words (bytes_of ws) ≡ ws
-unfolding words bytes_of
+unfolding words
 words_bytes [] t = refl
 words_bytes (w ∷ ws) t =
     let h = word_below w ws t in
     ap₂ (λ (x : ℕ) (xs : List ℕ). x ∷ xs) (word_back w h.0) (words_bytes ws h.1)
 
 length_bytes : (ws : List ℕ) → length (bytes_of ws) ≡ length ws * 4
-unfolding bytes_of
 length_bytes [] = refl
 length_bytes (w ∷ ws) = let h = length_bytes ws in omega arith
 
@@ -48,7 +47,7 @@ cut_list ws rest t =
     rw (word_back (length ws) fits, le-leb (length ws * 4) (length (bytes_of ws ++ rest)) long, take_at (bytes_of ws) rest (length ws * 4) len, drop_at (bytes_of ws) rest (length ws * 4) len)
 
 each-lists : (lists : List (List ℕ)) → T (all_below lists) → T (counts_fit lists) → each figures_one (length lists) (circle_bytes lists) ≡ Some lists
-unfolding each circle_bytes
+unfolding each
 each-lists [] t f = refl
 each-lists (ws ∷ lists) t f =
     let h = both_parts (below ws) (all_below lists) t in
@@ -59,7 +58,7 @@ read_circle : (lists : List (List ℕ)) → T (all_below lists) → T (counts_fi
 read_circle lists t f = rw (each-lists lists t f, true_from (all_below lists) t)
 
 bytes_words : (bytes : List ℕ) → T (all_bytes bytes) → length bytes % 4 ≡ 0 → bytes_of (words bytes) ≡ bytes
-unfolding words bytes_of
+unfolding words
 bytes_words [] t e = refl
 bytes_words (a ∷ []) t e = absurd (omega arith)
 bytes_words (a ∷ b ∷ []) t e = absurd (omega arith)

@@ -1,5 +1,6 @@
 -- What holds of the files, each a statement that a function's contract carries.
-use Rattle.std.specs.Prelude.{◌≡◌, ℕ, ◌+◌, ◌%◌, ◌<◌, ◌≤◌, Bool, true, ◌&&◌, T, ◌⊎◌, List, [], ◌∷◌, ◌++◌, length, Some, Ok, Err, ◌≢◌, nat_lt, slice_index}
+use Rattle.std.specs.Prelude.{◌≡◌, ℕ, ◌+◌, ◌%◌, ◌<◌, ◌≤◌, Bool, T, ◌⊎◌, List, ◌∷◌, ◌++◌, length, Some, Ok, Err, ◌≢◌, nat_lt, slice_index}
+use Rattle.std.specs.List.{list_all}
 use Rattle.field.specs.Field.{p, below, all_below}
 use Rattle.sheets.specs.declared.refusal.Refusal.TheVariants.{Malformed, OutOfRange}
 use Rattle.files.specs.Circles.{circle_figures}
@@ -34,8 +35,7 @@ FigureAnswers = (bytes : List ℕ) → FigureAnswer bytes
 
 -- every number is a byte
 abbrev pub all_bytes : List ℕ → Bool
-all_bytes [] = true
-all_bytes (b ∷ bytes) = nat_lt b 256 && all_bytes bytes
+all_bytes = list_all (λ b. nat_lt b 256)
 
 -- Writing and reading undo each other.
 pub record Undo : Type 0 where

@@ -23,14 +23,13 @@ pub(crate) fn split_coins(heap: Global, bytes: &[u8]) -> Result<Vec<u32>, AllocE
     ensures { IfOk result (λ v. (v.items ≡ coins_of (words bytes.now)) × T (below v.items)) }
 {
     let mut coins = Vec::with_capacity(heap, bytes.len() / 4)?;
-    let mut rest = bytes;
-    while let [a, b, c, d, after @ ..] = rest {
-        let word = u32::from_be_bytes([*a, *b, *c, *d]);
-        if let Some(coin) = coin_of(word) {
-            coins.push_reserved(coin);
-        }
-        rest = after;
-    }
+    let (words, _) = bytes.as_chunks::<4>();
+    coins.extend(
+        words
+            .iter()
+            .map(|word| u32::from_be_bytes(*word))
+            .filter_map(coin_of),
+    )?;
     Ok(coins)
 }
 

@@ -7,9 +7,10 @@ ghost use Rattle.files.specs.Held.{held};
 ghost use Rattle.files.specs.Lists.{lists};
 ghost use Rattle.std.specs.Option.{option_map};
 
-use crate::circle::each_below;
-use crate::parts::{take_coins, take_words};
-use sheets::Refusal;
+use crate::coins::split_coins;
+use crate::parts::{cut, end};
+use crate::words::split_words;
+use sheets::{Refusal, are_all_below};
 use std::alloc::Global;
 
 // Member i's figures and coins are at place i - 1.
@@ -25,7 +26,7 @@ pub fn read_circle_inputs(heap: Global, n: usize, bytes: &[u8]) -> Result<Circle
     ensures in_field { IfOk result (λ v. T (all_below (lists v.figures)) × T (all_below (lists v.coins))) }
 {
     let inputs = gather(heap, n, bytes)?;
-    if !each_below(&inputs.figures) {
+    if !are_all_below(&inputs.figures) {
         return Err(Refusal::OutOfRange);
     }
     Ok(inputs)
@@ -41,12 +42,13 @@ fn gather(heap: Global, n: usize, bytes: &[u8]) -> Result<CircleInputs, Refusal>
         coins: Vec::new(heap),
     };
     let mut rest = bytes;
-    for _i in 0..n {
-        let after = take_words(&mut inputs.figures, heap, rest)?;
-        rest = take_coins(&mut inputs.coins, heap, after)?;
+    for _ in 0..n {
+        let (figures, after) = cut(rest)?;
+        inputs.figures.push(split_words(heap, figures)?)?;
+        let (coins, after) = cut(after)?;
+        inputs.coins.push(split_coins(heap, coins)?)?;
+        rest = after;
     }
-    if !rest.is_empty() {
-        return Err(Refusal::Malformed);
-    }
+    end(rest)?;
     Ok(inputs)
 }

@@ -21,11 +21,9 @@ pub(crate) fn read_words(heap: Global, bytes: &[u8]) -> Result<Vec<u32>, Refusal
 pub(crate) fn split_words(heap: Global, bytes: &[u8]) -> Result<Vec<u32>, AllocError>
     ensures { IfOk result (λ v. v.items ≡ words_of bytes.now) }
 {
-    let mut words = Vec::with_capacity(heap, bytes.len() / 4)?;
-    let mut rest = bytes;
-    while let [a, b, c, d, after @ ..] = rest {
-        words.push_reserved(u32::from_be_bytes([*a, *b, *c, *d]));
-        rest = after;
-    }
-    Ok(words)
+    let (words, _) = bytes.as_chunks::<4>();
+    words
+        .iter()
+        .map(|word| u32::from_be_bytes(*word))
+        .collect(heap)
 }
