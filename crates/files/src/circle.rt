@@ -5,7 +5,7 @@ ghost use Rattle.files.specs.Answers.{Answers};
 ghost use Rattle.files.specs.Circles.{each, figures_one, formed, circle_figures};
 ghost use Rattle.files.specs.Lists.{lists as lists_of};
 
-use crate::parts::{cut, end};
+use crate::parts::{check_end, cut};
 use crate::words::split_words;
 use sheets::{Refusal, are_all_below};
 use std::alloc::Global;
@@ -33,6 +33,6 @@ fn read_lists(heap: Global, n: usize, bytes: &[u8]) -> Result<Vec<Vec<u32>>, Ref
         lists.push(split_words(heap, part)?)?;
         rest = after;
     }
-    end(rest)?;
+    check_end(rest)?;
     Ok(lists)
 }

@@ -5,6 +5,7 @@ ghost use Rattle.files.specs.Answers.{Answers};
 ghost use Rattle.files.specs.Files.{coin_in, coins_of, coin_file};
 ghost use Rattle.files.specs.Words.{words};
 
+use crate::words::check_whole;
 use sheets::Refusal;
 use std::alloc::{AllocError, Global};
 
@@ -12,9 +13,7 @@ pub fn read_coins(heap: Global, bytes: &[u8]) -> Result<Vec<u32>, Refusal>
     ensures answer { Answers vec_items (coin_file bytes.now) result }
     ensures in_field { IfOk result (λ v. T (below v.items)) }
 {
-    if bytes.len() % 4 != 0 {
-        return Err(Refusal::Malformed);
-    }
+    check_whole(bytes)?;
     Ok(split_coins(heap, bytes)?)
 }
 

@@ -8,7 +8,7 @@ ghost use Rattle.files.specs.Lists.{lists};
 ghost use Rattle.std.specs.Option.{option_map};
 
 use crate::coins::split_coins;
-use crate::parts::{cut, end};
+use crate::parts::{check_end, cut};
 use crate::words::split_words;
 use sheets::{Refusal, are_all_below};
 use std::alloc::Global;
@@ -49,6 +49,6 @@ fn gather(heap: Global, n: usize, bytes: &[u8]) -> Result<CircleInputs, Refusal>
         inputs.coins.push(split_coins(heap, coins)?)?;
         rest = after;
     }
-    end(rest)?;
+    check_end(rest)?;
     Ok(inputs)
 }

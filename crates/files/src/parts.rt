@@ -15,12 +15,11 @@ pub(crate) fn cut(bytes: &[u8]) -> Result<(&[u8], &[u8]), Refusal>
 }
 
 // That nothing stands after the last part.
-pub(crate) fn end(rest: &[u8]) -> Result<(), Refusal>
+pub(crate) fn check_end(rest: &[u8]) -> Result<(), Refusal>
     ensures { MatchResult result (λ _. length rest.now ≡ 0) (λ e. (e ≡ Malformed) × (0 < length rest.now)) }
 {
-    if rest.is_empty() {
-        Ok(())
-    } else {
-        Err(Refusal::Malformed)
+    if !rest.is_empty() {
+        return Err(Refusal::Malformed);
     }
+    Ok(())
 }

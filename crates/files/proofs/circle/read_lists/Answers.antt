@@ -20,12 +20,12 @@ loop-preserved c =
     each_more figures_one c.args.n c.loop.counter (lists c.loop.lists) _ c.loop.rest.now c.args.bytes.now (words c.in_ok-part.part.now) c.in_ok-part.after.now
     (search rules) (figures-some _ _ _ c.in_ok-part.ensures) (one_more vec_items _ _ _ _ c.in_ok-push.ensures.items c.in_ok-split_words.ensures) c.loop.invariant
 
-pub returns-in_err-end : goal.returns-in_err-end
-returns-in_err-end c =
-    let bad = c.in_err-end.ensures in
-    malformed_so lists _ _ _ c.from_residual-in_err-end.ensures.1 bad.0
+pub returns-in_err-check_end : goal.returns-in_err-check_end
+returns-in_err-check_end c =
+    let bad = c.in_err-check_end.ensures in
+    malformed_so lists _ _ _ c.from_residual-in_err-check_end.ensures.1 bad.0
     (ap formed (each_left figures_one c.args.n c.loop.counter _ c.loop.rest.now c.args.bytes.now (search rules) bad.1 c.loop.invariant))
 
 pub returns : goal.returns
 returns c =
-    ap formed (each_all figures_one c.args.n c.loop.counter _ c.loop.rest.now c.args.bytes.now (search rules) c.in_ok-end.ensures c.loop.invariant)
+    ap formed (each_all figures_one c.args.n c.loop.counter _ c.loop.rest.now c.args.bytes.now (search rules) c.in_ok-check_end.ensures c.loop.invariant)

@@ -50,16 +50,16 @@ loop-preserved c =
       ),
     )
 
-pub returns-in_err-end-clause-answer : goal.returns-in_err-end-clause-answer
-returns-in_err-end-clause-answer c =
-    let bad = c.in_err-end.ensures in
-    malformed_so held _ _ _ c.from_residual-in_err-end.ensures.1 bad.0
+pub returns-in_err-check_end-clause-answer : goal.returns-in_err-check_end-clause-answer
+returns-in_err-check_end-clause-answer c =
+    let bad = c.in_err-check_end.ensures in
+    malformed_so held _ _ _ c.from_residual-in_err-check_end.ensures.1 bad.0
     (ap told (each_left member_one c.args.n c.loop.counter c.loop.invariant.1.0 c.loop.rest.now c.args.bytes.now (search rules) bad.1 c.loop.invariant.1.2))
 
 pub returns : goal.returns
 returns c = record {
   answer =
-      ap told (each_all member_one c.args.n c.loop.counter c.loop.invariant.1.0 c.loop.rest.now c.args.bytes.now (search rules) c.in_ok-end.ensures c.loop.invariant.1.2)
+      ap told (each_all member_one c.args.n c.loop.counter c.loop.invariant.1.0 c.loop.rest.now c.args.bytes.now (search rules) c.in_ok-check_end.ensures c.loop.invariant.1.2)
       ∙ ap (λ (g : Given). Ok g) c.loop.invariant.1.1;
   coins = c.loop.invariant.0;
 }
