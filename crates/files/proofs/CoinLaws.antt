@@ -7,7 +7,7 @@ use Rattle.files.specs.Files.{low, coin_in}
 use Rattle.files.specs.Laws.{CoinWords, PassedOver}
 
 low_of : (b : Bool) (x v : ℕ) → cond b None (Some x) ≡ Some v → x ≡ v
-low_of true x v e = let z : ◌≡◌ {A = ℕ} 0 1 = cc in absurd (omega arith)
+low_of true x v e = absurd (grind arith)
 low_of false x v e = cc
 
 half : (v w : ℕ) → v < p → w < 4294967296 → low w ≡ v → (w ≡ v) ⊎ (w ≡ v + 2147483648)

@@ -1,9 +1,10 @@
 -- Coins are below p, and so are all lists with one of coins added.
 use Rattle.std.proofs.Common.{◌≡◌, ℕ, ◌<◌, Bool, true, false, cond, T, eqb, List, [], ◌∷◌, ◌++◌, Some, None, refl, arith, lt→ltb}
 use Rattle.field.specs.Field.{p, below, all_below}
-use Rattle.field.proofs.Below.{both_parts, both_from}
+use Rattle.field.proofs.Below.{both_from}
 use Rattle.std.specs.List.{cons_option}
 use Rattle.std.proofs.lemmas.Bool.{eqb-false}
+use Rattle.std.proofs.lemmas.List.Folds.{list_all-append}
 use Rattle.files.specs.Files.{low, coins_of}
 
 coin_below : (w : ℕ) → (low w ≡ p → ⊥) → low w < p
@@ -17,11 +18,5 @@ pub coins-below : (ws : List ℕ) → T (below (coins_of ws))
 coins-below [] = tt
 coins-below (w ∷ ws) = below_step w (coins_of ws) (eqb (low w) p) refl (coins-below ws)
 
-push_below : (xss : List (List ℕ)) (xs : List ℕ) → T (all_below xss) → T (below xs) → T (all_below (xss ++ xs ∷ []))
-push_below [] xs a t = both_from (below xs) true t tt
-push_below (ys ∷ xss) xs a t =
-    let h = both_parts (below ys) (all_below xss) a in
-    both_from (below ys) (all_below (xss ++ xs ∷ [])) h.0 (push_below xss xs h.1 t)
-
 pub lists_push : (new xss : List (List ℕ)) (xs : List ℕ) → new ≡ xss ++ xs ∷ [] → T (all_below xss) → T (below xs) → T (all_below new)
-lists_push new xss xs e a t = rw e (push_below xss xs a t)
+lists_push new xss xs e a t = rw (e, list_all-append below xss (xs ∷ [])) (both_from _ _ a (both_from _ _ t tt))

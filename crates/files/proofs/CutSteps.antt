@@ -18,7 +18,7 @@ cut_short (a ∷ b ∷ c ∷ d ∷ xs) h = absurd (omega arith)
 
 pub no_count : {X : Type 0} (xs : List ℕ) (o : Option X) (P : X → Type 0) (e : Refusal) → Err e ≡ ok_or o Malformed → MatchOption o (length xs < 4) P → (e ≡ Malformed) × (cut xs ≡ None)
 no_count xs None P e q h = (cc, cut_short xs h)
-no_count xs (Some x) P e q h = let z : ◌≡◌ {A = ℕ} 0 1 = cc in absurd (omega arith)
+no_count xs (Some x) P e q h = absurd (grind arith)
 
 pub cut_counted : (xs count rest : List ℕ) (w : ℕ) → 4 ≤ length xs → count ≡ take 4 xs → rest ≡ drop 4 xs → w ≡ front count → cut xs ≡ cut_words w rest
 unfolding cut

@@ -2,9 +2,7 @@
 use Rattle.std.proofs.Common.{◌≡◌, ℕ, suc, ◌+◌, ◌-◌, ◌<◌, ◌≤◌, List, [], ◌∷◌, ◌++◌, map, length, Some, None, Option, sym, refl, ap, ◌∙◌, ap₂, arith}
 use Rattle.std.proofs.lemmas.List.{append_assoc, append-nil, nil_from_length, map_push}
 use Rattle.std.specs.Option.{option_map}
-use Rattle.files.specs.Circles.{Got, and_then, each, cut, figures_one, Member, member_one, Given, gathered}
-use Rattle.files.specs.Files.{coins_of}
-use Rattle.files.specs.Words.{words}
+use Rattle.files.specs.Circles.{Got, and_then, each, Member, Given, gathered}
 
 abbrev pub prefixed : {X : Type 0} → List X → Option (List X) → Option (List X)
 prefixed done o = option_map (λ xs. done ++ xs) o
@@ -62,25 +60,8 @@ module _ {X : Type 0} (one : List ℕ → Option (Got X)) (n : ℕ) where
 pub one_more : {X : Type 0} (f : X → List ℕ) (new old : List X) (x : X) (xs : List ℕ) → new ≡ old ++ x ∷ [] → f x ≡ xs → map f new ≡ map f old ++ xs ∷ []
 one_more f new old x xs n e = rw (n, map_push f old x, e)
 
-pub figures_none : (bytes : List ℕ) → cut bytes ≡ None → figures_one bytes ≡ None
-figures_none bytes e = rw e
-
-pub figures-some : (bytes part rest : List ℕ) → cut bytes ≡ Some (record { what = part; rest = rest }) → figures_one bytes ≡ Some (record { what = words part; rest = rest })
-figures-some bytes part rest e = rw e
-
-pub gathered_more : (done : List Member) (m : Member) (g h : Given) (fs cs : List ℕ) → gathered done ≡ g → fs ≡ m.figures → cs ≡ m.coins → h.figures ≡ g.figures ++ fs ∷ [] → h.coins ≡ g.coins ++ cs ∷ [] → gathered (done ++ m ∷ []) ≡ h
-gathered_more done m g h fs cs e mf mc f c =
-    let figures : map (λ (n : Member). n.figures) (done ++ m ∷ []) ≡ h.figures =
-    map_push (λ (n : Member). n.figures) done m ∙ (ap₂ (λ (k : Given) (xs : List ℕ). k.figures ++ xs ∷ []) e (sym mf) ∙ sym f) in
-    let coins : map (λ (n : Member). n.coins) (done ++ m ∷ []) ≡ h.coins =
-    map_push (λ (n : Member). n.coins) done m ∙ (ap₂ (λ (k : Given) (xs : List ℕ). k.coins ++ xs ∷ []) e (sym mc) ∙ sym c) in
-    ap₂ (λ (a b : List (List ℕ)). record { figures = a; coins = b }) figures coins
-
-pub member_none : (bytes : List ℕ) → cut bytes ≡ None → member_one bytes ≡ None
-member_none bytes e = rw e
-
-pub member_half : (bytes figures rest : List ℕ) → cut bytes ≡ Some (record { what = figures; rest = rest }) → cut rest ≡ None → member_one bytes ≡ None
-member_half bytes figures rest e f = rw (e, f)
-
-pub member-some : (bytes figures mid coins rest : List ℕ) → cut bytes ≡ Some (record { what = figures; rest = mid }) → cut mid ≡ Some (record { what = coins; rest = rest }) → member_one bytes ≡ Some (record { what = record { figures = words figures; coins = coins_of (words coins) }; rest = rest })
-member-some bytes figures mid coins rest e f = rw (e, f)
+pub gathered_more : (done : List Member) (m : Member) (g h : Given) → gathered done ≡ g → h.figures ≡ g.figures ++ m.figures ∷ [] → h.coins ≡ g.coins ++ m.coins ∷ [] → gathered (done ++ m ∷ []) ≡ h
+gathered_more done m g h e f c =
+    ap₂ (λ (a b : List (List ℕ)). record { figures = a; coins = b })
+    (map_push (λ (n : Member). n.figures) done m ∙ (ap (λ (k : Given). k.figures ++ m.figures ∷ []) e ∙ sym f))
+    (map_push (λ (n : Member). n.coins) done m ∙ (ap (λ (k : Given). k.coins ++ m.coins ∷ []) e ∙ sym c))

@@ -7,7 +7,7 @@ use Rattle.files.specs.Held.{held}
 use Rattle.files.specs.Lists.{lists}
 use Rattle.files.specs.Words.{words}
 use Rattle.files.proofs.CoinSteps.{coins-below, lists_push}
-use Rattle.files.proofs.EachSteps.{each_none, each_more, each_stop, each_left, each_all, one_more, gathered_more, member_none, member_half, member-some}
+use Rattle.files.proofs.EachSteps.{each_none, each_more, each_stop, each_left, each_all, one_more, gathered_more}
 use Rattle.files.proofs.Refused.{malformed_so}
 use Rattle.files.proofs.inputs.gather.Goals as goal
 
@@ -28,13 +28,13 @@ pub returns-in_err-figures-clause-answer : goal.returns-in_err-figures-clause-an
 returns-in_err-figures-clause-answer c =
     let bad = c.in_err-figures.ensures in
     malformed_so held _ _ _ c.from_residual.ensures.1 bad.0
-    (ap told (each_stop member_one c.args.n c.loop.counter c.loop.invariant.1.0 c.loop.rest.now c.args.bytes.now (search rules) (member_none c.loop.rest.now bad.1) c.loop.invariant.1.2))
+    (ap told (each_stop member_one c.args.n c.loop.counter c.loop.invariant.1.0 c.loop.rest.now c.args.bytes.now (search rules) (rw bad.1) c.loop.invariant.1.2))
 
 pub returns-in_err-coins-clause-answer : goal.returns-in_err-coins-clause-answer
 returns-in_err-coins-clause-answer c =
     let bad = c.in_err-coins.ensures in
     malformed_so held _ _ _ c.from_residual-in_err-coins.ensures.1 bad.0
-    (ap told (each_stop member_one c.args.n c.loop.counter c.loop.invariant.1.0 c.loop.rest.now c.args.bytes.now (search rules) (member_half c.loop.rest.now _ _ c.in_ok-figures.ensures bad.1) c.loop.invariant.1.2))
+    (ap told (each_stop member_one c.args.n c.loop.counter c.loop.invariant.1.0 c.loop.rest.now c.args.bytes.now (search rules) (rw (c.in_ok-figures.ensures, bad.1)) c.loop.invariant.1.2))
 
 pub loop-preserved : goal.loop-preserved
 loop-preserved c =
@@ -44,9 +44,9 @@ loop-preserved c =
       lists_push _ (lists c.loop.inputs.coins) _ coins c.loop.invariant.0 (coins-below (words c.in_ok-coins.coins.now)),
       (
         c.loop.invariant.1.0 ++ m ∷ [],
-        gathered_more c.loop.invariant.1.0 m (held c.loop.inputs) (record { figures = lists c.push.new.self; coins = lists c.push-in-loop.new.self }) m.figures m.coins c.loop.invariant.1.1 refl refl figures coins,
+        gathered_more c.loop.invariant.1.0 m (held c.loop.inputs) (record { figures = lists c.push.new.self; coins = lists c.push-in-loop.new.self }) c.loop.invariant.1.1 figures coins,
         each_more member_one c.args.n c.loop.counter c.loop.invariant.1.0 _ c.loop.rest.now c.args.bytes.now m _
-            (search rules) (member-some _ _ _ _ _ c.in_ok-figures.ensures c.in_ok-coins.ensures) refl c.loop.invariant.1.2,
+            (search rules) (rw (c.in_ok-figures.ensures, c.in_ok-coins.ensures)) refl c.loop.invariant.1.2,
       ),
     )
 
