@@ -1,8 +1,8 @@
 -- What n members bring, as a loop over them meets it: what was read so far, and what is left.
 use Rattle.std.proofs.Common.{◌≡◌, ℕ, suc, ◌+◌, ◌-◌, ◌<◌, ◌≤◌, List, [], ◌∷◌, ◌++◌, map, length, Some, None, Option, sym, refl, ap, ◌∙◌, ap₂, arith}
 use Rattle.std.proofs.lemmas.List.{append_assoc, append-nil, nil_from_length, map_push}
-use Rattle.std.specs.Option.{option_map}
-use Rattle.files.specs.Circles.{Got, and_then, each, Member, Given, gathered}
+use Rattle.std.specs.Option.{option_map, option_and_then}
+use Rattle.files.specs.Circles.{Got, each, Member, Given, gathered}
 
 abbrev pub prefixed : {X : Type 0} → List X → Option (List X) → Option (List X)
 prefixed done o = option_map (λ xs. done ++ xs) o
@@ -23,7 +23,7 @@ module _ {X : Type 0} (one : List ℕ → Option (Got X)) (n : ℕ) where
   pub each_none : (bytes : List ℕ) → So 0 [] bytes bytes
   each_none bytes = let e : n - 0 ≡ n = omega arith in rw e (prefixed_nil (each one n bytes))
 
-  each-suc : (i : ℕ) (rest : List ℕ) → i < n → each one (n - i) rest ≡ and_then (one rest) (λ g. option_map (λ xs. g.what ∷ xs) (each one (n - (i + 1)) g.rest))
+  each-suc : (i : ℕ) (rest : List ℕ) → i < n → each one (n - i) rest ≡ option_and_then (λ g. option_map (λ xs. g.what ∷ xs) (each one (n - (i + 1)) g.rest)) (one rest)
   unfolding each
   each-suc i rest h = let e : n - i ≡ suc (n - (i + 1)) = omega arith in rw e
 

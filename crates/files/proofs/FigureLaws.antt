@@ -14,19 +14,13 @@ abbrev answer : Bool → Bool → List ℕ → Result (List ℕ) Refusal
 answer w b ws = cond w (cond b (Ok ws) (Err OutOfRange)) (Err Malformed)
 
 not_whole : (w b : Bool) (ws : List ℕ) → answer w b ws ≡ Err Malformed → w ≡ true → ⊥
-not_whole true true ws e q = grind arith
-not_whole true false ws e q = grind arith
-not_whole false b ws e q = grind arith
+not_whole w b ws e q = grind arith
 
 too_large : (w b : Bool) (ws : List ℕ) → answer w b ws ≡ Err OutOfRange → (w ≡ true) × (b ≡ false)
-too_large true true ws e = absurd (grind arith)
-too_large true false ws e = (refl, refl)
-too_large false b ws e = absurd (grind arith)
+too_large w b ws e = grind arith
 
 pub read_whole : (w b : Bool) (ws figures : List ℕ) → answer w b ws ≡ Ok figures → (w ≡ true) × (ws ≡ figures)
-read_whole true true ws figures e = (refl, cc)
-read_whole true false ws figures e = absurd (grind arith)
-read_whole false b ws figures e = absurd (grind arith)
+read_whole w b ws figures e = grind arith
 
 abbrev Large : List ℕ → Type 0
 Large ws = (k : ℕ) × (k < length ws) × (p ≤ get_or ws k 0)
@@ -50,13 +44,13 @@ figure_answers bytes =
     let n : ℕ = length bytes % 4 in
     let ws : List ℕ = words bytes in
     record {
-      malformed = record {
-        to = λ e q. not_whole (whole bytes) (below ws) ws e (eq-eqb n 0 q);
-        from = λ ne. rw (ne_eqb n 0 ne);
-      };
-      out_of_range = record {
-        to = λ e. let h = too_large (whole bytes) (below ws) ws e in (eqb-true n 0 h.0, large_from ws h.1);
-        from = λ h. rw (eq-eqb n 0 h.0, not_below ws h.1);
-      };
+      malformed = (
+        λ e q. not_whole (whole bytes) (below ws) ws e (eq-eqb n 0 q),
+        λ ne. rw (ne_eqb n 0 ne),
+      );
+      out_of_range = (
+        λ e. let h = too_large (whole bytes) (below ws) ws e in (eqb-true n 0 h.0, large_from ws h.1),
+        λ h. rw (eq-eqb n 0 h.0, not_below ws h.1),
+      );
       else_read = λ q ok. rw (eq-eqb n 0 q, in_field ws ok);
     }

@@ -1,5 +1,5 @@
 -- Writing and reading undo each other.
-use Rattle.std.proofs.Common.{◌≡◌, ℕ, ◌*◌, ◌%◌, ◌<◌, ◌≤◌, Bool, true, false, T, ltb, List, [], ◌∷◌, ◌++◌, length, Some, Ok, sym, refl, ap, ◌∙◌, ap₂, arith, ltb→lt, length-append}
+use Rattle.std.proofs.Common.{◌≡◌, ℕ, ◌*◌, ◌%◌, ◌<◌, ◌≤◌, Bool, true, T, ltb, List, [], ◌∷◌, ◌++◌, length, Some, Ok, sym, refl, ap, ◌∙◌, ap₂, arith, ltb→lt, length-append}
 use Rattle.field.specs.Field.{p, below, all_below}
 use Rattle.field.proofs.Below.{both_parts}
 use Rattle.std.proofs.lemmas.List.{take_at, drop_at}
@@ -13,8 +13,7 @@ use Rattle.files.specs.Writing.{bytes_of, list_bytes, circle_bytes, count_fits, 
 use Rattle.files.proofs.FigureLaws.{read_whole}
 
 true_from : (b : Bool) → T b → b ≡ true
-true_from true t = refl
-true_from false t = absurd t
+true_from b t = grind arith
 
 -- p and a count that fits are words
 word_below : (w : ℕ) (ws : List ℕ) → T (below (w ∷ ws)) → (w < 4294967296) × T (below ws)

@@ -17,9 +17,10 @@ pub fn read_coins(heap: Global, bytes: &[u8]) -> Result<Vec<u32>, Refusal>
     Ok(split_coins(heap, bytes)?)
 }
 
-// The coins of some bytes.
+// The coins of some bytes. There is room for a coin of each word, since what is filtered does not tell its length.
 pub(crate) fn split_coins(heap: Global, bytes: &[u8]) -> Result<Vec<u32>, AllocError>
-    ensures { IfOk result (λ v. (v.items ≡ coins_of (words bytes.now)) × T (below v.items)) }
+    ensures coins { IfOk result (λ v. v.items ≡ coins_of (words bytes.now)) }
+    ensures in_field { IfOk result (λ v. T (below v.items)) }
 {
     let mut coins = Vec::with_capacity(heap, bytes.len() / 4)?;
     let (words, _) = bytes.as_chunks::<4>();

@@ -32,7 +32,7 @@ pub fn read_circle_inputs(heap: Global, n: usize, bytes: &[u8]) -> Result<Circle
     Ok(inputs)
 }
 
-// What n members bring, and nothing more.
+// What n members bring, and nothing more. A loop shared with `read_lists` would take a closure that pushes, and be no plainer.
 fn gather(heap: Global, n: usize, bytes: &[u8]) -> Result<CircleInputs, Refusal>
     ensures answer { Answers held (formed (option_map gathered (each member_one n bytes.now))) result }
     ensures coins { IfOk result (λ v. T (all_below (lists v.coins))) }

@@ -18,4 +18,4 @@ returns c =
     (YieldsList-from_map _ front (YieldsList-from_slice (first_chunks 4 (length c.args.bytes.now / 4) c.args.bytes.now) cc) c.map.ensures.closure (λ x r q k. search rules))
     c.filter_map.ensures.closure (λ x r q k. search rules))) in
     let is : c.extend.new.self.items ≡ coins_of (words c.args.bytes.now) = rw (← words_chunks c.args.bytes.now) (rw c.in_ok-coins.ensures.items at got.0) in
-    (is, subst (λ (l : List ℕ). T (below l)) (sym is) (coins-below (words c.args.bytes.now)))
+    record { coins = is; in_field = subst (λ (l : List ℕ). T (below l)) (sym is) (coins-below (words c.args.bytes.now)) }

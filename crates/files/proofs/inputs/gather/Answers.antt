@@ -40,7 +40,7 @@ pub loop-preserved : goal.loop-preserved
 loop-preserved c =
     let m : Member = record { figures = words c.in_ok-figures.figures.now; coins = coins_of (words c.in_ok-coins.coins.now) } in
     let figures = one_more vec_items _ _ _ m.figures c.in_ok-push.ensures.items c.in_ok-split_words.ensures in
-    let coins = one_more vec_items _ _ _ m.coins c.in_ok-push-2.ensures.items c.in_ok-split_coins.ensures.0 in (
+    let coins = one_more vec_items _ _ _ m.coins c.in_ok-push-2.ensures.items c.in_ok-split_coins.ensures.coins in (
       lists_push _ (lists c.loop.inputs.coins) _ coins c.loop.invariant.0 (coins-below (words c.in_ok-coins.coins.now)),
       (
         c.loop.invariant.1.0 ++ m ∷ [],
