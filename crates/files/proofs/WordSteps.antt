@@ -1,4 +1,4 @@
--- The words of some bytes, by their first four bytes and the rest, and by all their chunks of four.
+-- The words of some bytes, by their chunks of four.
 use Rattle.std.proofs.Common.{◌≡◌, ℕ, ◌/◌, suc, List, [], ◌∷◌, map, length, get_or, refl, ap, arith}
 use Rattle.std.specs.Simd.{first_chunks}
 use Rattle.sheets.specs.Bytes.{word}

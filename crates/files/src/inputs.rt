@@ -13,7 +13,7 @@ use crate::words::split_words;
 use sheets::{Refusal, are_all_below};
 use std::alloc::Global;
 
-// Member i's figures and coins are at place i - 1.
+// Member i's figures and coins are at place i - 1, in lists of their own, since a run takes the two apart.
 #[derive(Drop)]
 pub struct CircleInputs {
     pub figures: Vec<Vec<u32>>,
