@@ -59,9 +59,6 @@ read_circle lists t f = rw (each-lists lists t f, true_from (all_below lists) t)
 bytes_words : (bytes : List ℕ) → T (all_bytes bytes) → length bytes % 4 ≡ 0 → bytes_of (words bytes) ≡ bytes
 unfolding words
 bytes_words [] t e = refl
-bytes_words (a ∷ []) t e = absurd (omega arith)
-bytes_words (a ∷ b ∷ []) t e = absurd (omega arith)
-bytes_words (a ∷ b ∷ c ∷ []) t e = absurd (omega arith)
 bytes_words (a ∷ b ∷ c ∷ d ∷ bytes) t e =
     let ha = both_parts (ltb a 256) (all_bytes (b ∷ c ∷ d ∷ bytes)) t in
     let hb = both_parts (ltb b 256) (all_bytes (c ∷ d ∷ bytes)) ha.1 in
@@ -70,6 +67,7 @@ bytes_words (a ∷ b ∷ c ∷ d ∷ bytes) t e =
     let here = bytes_back a b c d (ltb→lt a 256 ha.0) (ltb→lt b 256 hb.0) (ltb→lt c 256 hc.0) (ltb→lt d 256 hd.0) in
     let four : length bytes % 4 ≡ 0 = omega arith in
     ap₂ (λ (x y : List ℕ). x ++ y) here (bytes_words bytes hd.1 four)
+bytes_words bytes t e = absurd (omega arith)
 
 write_figures : (bytes figures : List ℕ) → T (all_bytes bytes) → figure_file bytes ≡ Ok figures → bytes_of figures ≡ bytes
 write_figures bytes figures t e =

@@ -19,11 +19,8 @@ cut_words count bytes = cond (nat_le (count * 4) (length bytes)) (Some (record {
 
 -- a count, and the bytes of as many words
 unfoldable pub cut : List ℕ → Option (Got (List ℕ))
-cut [] = None
-cut (a ∷ []) = None
-cut (a ∷ b ∷ []) = None
-cut (a ∷ b ∷ c ∷ []) = None
 cut (a ∷ b ∷ c ∷ d ∷ bytes) = cut_words (word a b c d) bytes
+cut bytes = None
 
 -- what n members bring, where `one` reads a member's
 unfoldable pub each : {X : Type 0} → (List ℕ → Option (Got X)) → ℕ → List ℕ → Option (List X)
