@@ -4,7 +4,6 @@ ghost use Rattle.console.specs.Numbers.{outside, SetOf, WordsAs};
 
 use crate::failure::Failure;
 use crate::numbers::member_number;
-use sheets::Refusal;
 use std::alloc::Global;
 
 // The numbers in the words, or none if a word is no decimal number.
@@ -16,9 +15,7 @@ pub fn member_words(heap: Global, words: &[String]) -> Result<Option<Vec<u32>>, 
         let Some(number) = member_number(word.as_bytes()) else {
             return Ok(None);
         };
-        let Ok(()) = numbers.push(number) else {
-            return Err(Failure::Refused(Refusal::NoMemory));
-        };
+        numbers.push(number)?;
     }
     Ok(Some(numbers))
 }
