@@ -8,7 +8,7 @@ use std::fmt::Display;
 use std::process::ExitCode;
 
 // Takes the step with the words of the command line, or prints the usage line where `--help` alone is asked.
-pub fn run_program<F: FnOnce(&HostRuntime, &[String]) -> Result<(), Failure>>(
+pub fn run_program<E: Display + Drop, F: FnOnce(&HostRuntime, &[String]) -> Result<(), E>>(
     rt: &HostRuntime,
     usage: &'static str,
     step: F,
