@@ -24,7 +24,8 @@ use Rattle.runs.proofs.Checked.{reduced-from}
 use Rattle.pairing.specs.Answers.{Serve, PairedAs, ConcludedAs}
 use Rattle.pairing.specs.declared.answer.Pairing.{Pairing}
 use Rattle.pairing.specs.declared.answer.Pairing.TheVariants.{Coins as PairedCoins, OpenedDiffers, FigureDiffers, NoPairing}
-use Rattle.pairing.specs.Differing.{differ, Place, figure_differs}
+use Rattle.pairing.specs.declared.differing.Place.{Place}
+use Rattle.pairing.specs.Differing.{differ, figure_differs}
 use Rattle.pairing.specs.Lacking.{runs_out_in_either}
 use Rattle.pairing.specs.Verdict.{among, unpairable, refusal, Verdict, Unpaired, Refused, Opened, Figure, Paired, first_of, verdict}
 use Rattle.pairing.proofs.Agreed.{either_none, differ_nowhere, results_level, agree}
