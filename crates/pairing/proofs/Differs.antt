@@ -1,13 +1,14 @@
 -- Differences, place by place and line by line.
-use Rattle.std.proofs.Common.{◌≡◌, ℕ, zero, suc, ◌+◌, ◌-◌, ◌<◌, ◌≤◌, min, Bool, true, false, cond, not, ◌&&◌, T, eqb, ltb, leb, ◌⊎◌, List, [], ◌∷◌, length, get_or, take, drop, set, replicate, Some, None, Option, sym, refl, ap, ◌∙◌, subst, ap₂, inl, inr, ⊎_elim, arith, eqb→eq, ltb→lt, leb→le}
+use Rattle.std.proofs.Common.{◌≡◌, ℕ, zero, suc, ◌+◌, ◌-◌, ◌<◌, ◌≤◌, min, Bool, true, false, cond, not, ◌&&◌, T, eqb, ltb, leb, ◌⊎◌, List, [], ◌∷◌, length, get_or, take, drop, set, replicate, Some, None, Option, sym, refl, ap, ◌∙◌, subst, ap₂, inl, inr, ⊎_elim, arith, eqb→eq, ltb→lt, leb→le, Bor}
 use mathlib.Core.Path.{fun_ext}
-use Rattle.std.proofs.lemmas.List.{drop_more, drop_all, at_drop_more, at_drop_all, get_or-set_same, get_or-set_other, get_or-take, length-set}
+use Rattle.std.proofs.lemmas.List.{drop_more, drop_all, at_drop_more, at_drop_all, get_or-set_same, get_or-set_other, get_or-take, length-set, nil_from_length}
 use Rattle.std.proofs.lemmas.Bool.{eq-eqb, ne_eqb, cases_eq, cases_lt, cond-true, cond-false}
 use Rattle.std.proofs.lemmas.List.Recursion.{is_sum_by}
 use Rattle.std.proofs.lemmas.List.Sums.{sum_by_more}
 use Rattle.std.specs.List.{count_by, position_from, sum_by, zip}
 use Rattle.field.proofs.Below.{both_parts}
-use Rattle.sheets.specs.Drawing.{after}
+use Rattle.sheets.specs.Drawing.{after, DrawnFrom}
+use Rattle.sheets.specs.Families.{of}
 use Rattle.sheets.specs.Lines.{made, gives, good, good_line, figures_needed}
 use Rattle.sheets.specs.Meaning.{figures_after}
 use Rattle.sheets.specs.declared.line.Line.{Line}
@@ -29,16 +30,19 @@ differ_by k (x ∷ xs) [] = refl
 differ_by k (x ∷ xs) (y ∷ ys) =
     ap (λ (o : Option ℕ). cond (eqb x y) o (Some k)) (differ_by (k + 1) xs ys) ∙ swapped (eqb x y) (position_from (λ (p : ℕ × ℕ). not (eqb p.0 p.1)) (k + 1) (zip xs ys)) (Some k)
 
-pub first_taken : (xs drawn : List ℕ) → drawn ≡ take 1 xs → get_or drawn 0 0 ≡ get_or xs 0 0
-first_taken xs drawn e = ap (λ (l : List ℕ). get_or l 0 0) e ∙ get_or-take 1 xs 0 0 (omega arith)
-
 -- nothing is taken from an empty list
 taken_at : (b : Bool) (xs : List ℕ) → (T b → xs ≡ []) → xs ≡ cond b (drop 1 xs) xs
 taken_at true xs h = h tt ∙ sym (ap (drop 1) (h tt))
 taken_at false xs h = refl
 
-pub after_empty : (lists : ℕ → List ℕ) (w : ℕ) → lists w ≡ [] → lists ≡ after w 1 lists
+after_empty : (lists : ℕ → List ℕ) (w : ℕ) → lists w ≡ [] → lists ≡ after w 1 lists
 after_empty lists w e = fun_ext λ (i : ℕ). taken_at (eqb i w) (lists i) (λ t. ap lists (eqb→eq i w t) ∙ e)
+
+pub taken_of : (w : ℕ) (before left : List (List ℕ)) (drawn : Option (Bor (List ℕ))) → DrawnFrom w 1 before left drawn → of left ≡ after w 1 (of before)
+taken_of w before left (Some d) h = h.2
+taken_of w before left None h =
+    let none : length (of before w) ≡ 0 = omega (arith, h.0) in
+    ap of h.1 ∙ after_empty (of before) w (nil_from_length (of before w) none)
 
 -- as many figures of a member were taken as the lines before need
 needed_by : (i : ℕ) (ls : List Line) → figures_needed i ls ≡ sum_by (λ (l : Line). cond (gives l i) 1 0) ls

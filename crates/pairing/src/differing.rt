@@ -57,10 +57,8 @@ fn count_figures(member: u32, lines: &[Line]) -> usize
 
 // Takes the next number of a member's list, or gives 0 where there is none.
 fn next(lists: &mut [&[u32]], member: u32) -> u32
-    ensures { (result ≡ slice_index (of (family lists.old) member) 0) × (of (family lists.new) ≡ after member 1 (of (family lists.old))) }
+    ensures value { result ≡ slice_index (of (family lists.old) member) 0 }
+    ensures taken { of (family lists.new) ≡ after member 1 (of (family lists.old)) }
 {
-    match draw(lists, member, 1) {
-        Some(drawn) => drawn[0],
-        None => 0,
-    }
+    draw(lists, member, 1).map_or(0, |drawn| drawn[0])
 }

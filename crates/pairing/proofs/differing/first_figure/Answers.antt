@@ -43,7 +43,7 @@ returns-then-figure-other c =
     let at : ℕ → Option Place = λ k. Some (record { member = w; place = k }) in
     ap at place
     ∙ (sym (found c.args.watched.now ls F F' c.args.sheet.now.n c.loop-k.k (Input 0) (slices c.loop-k.figures) (slices c.loop-k.other_figures) c.loop-k-test.true c.loop-k.invariant
-    w c.in-Input.is c.next-figure.result c.next-other.result c.next-figure.ensures.0 c.next-other.ensures.0 c.if-watched-member.true c.if-figure-other.true)
+    w c.in-Input.is c.next-figure.result c.next-other.result c.next-figure.ensures.value c.next-other.ensures.value c.if-watched-member.true c.if-figure-other.true)
     ∙ ap (λ (xs : List Line). figure_differs (watches c.args.watched.now) xs (λ i. 0) F F') c.lines-lines.ensures)
 
 pub loop-k-preserved : goal.loop-k-preserved
@@ -58,8 +58,8 @@ loop-k-preserved c =
       | in-Input+else-watched-member w ↦
           rw (w.figures-is, w.other_figures-is)
           (not-here flags ls F F' c.args.sheet.now.n c.loop-k.k (Input 0) f f' c.loop-k-test.true c.loop-k.invariant
-          w.in-Input.member w.in-Input.is w.next-figure.result w.next-other.result w.next-figure.ensures.0 w.next-other.ensures.0
-          (slices w.next-figure.new.lists) (slices w.next-other.new.lists) w.else-watched-member.either w.next-figure.ensures.1 w.next-other.ensures.1)
+          w.in-Input.member w.in-Input.is w.next-figure.result w.next-other.result w.next-figure.ensures.value w.next-other.ensures.value
+          (slices w.next-figure.new.lists) (slices w.next-other.new.lists) w.else-watched-member.either w.next-figure.ensures.taken w.next-other.ensures.taken)
       | in_default w ↦
           rw (w.figures-is, w.other_figures-is)
           (passed flags ls F F' c.args.sheet.now.n c.loop-k.k (Input 0) f f' c.loop-k-test.true c.loop-k.invariant (get_or ls c.loop-k.k (Input 0)) refl w.in_default.not-Input)
