@@ -1,5 +1,5 @@
 -- What is judged before the runs.
-use Rattle.std.proofs.Common.{◌≡◌, ℕ, Bool, true, ◌&&◌, List, Some, Ok, Err, Option, Result, sym, ap, ◌∙◌, ap₂, inr, Bor}
+use Rattle.std.proofs.Common.{◌≡◌, ℕ, Bool, true, ◌&&◌, List, Some, Ok, Err, Result, sym, ap, ◌∙◌, ap₂, inr, Bor}
 use Rattle.std.proofs.lemmas.Bool.{cond-true}
 use Rattle.field.specs.Field.{all_below}
 use Rattle.shares.specs.Circle.{Circle}

@@ -1,5 +1,5 @@
 -- The watched as flags and as numbers: the same set.
-use Rattle.std.proofs.Common.{◌≡◌, ℕ, zero, suc, ◌+◌, ◌<◌, ◌≤◌, min, Bool, true, false, cond, ◌||◌, eqb, ltb, List, [], ◌∷◌, length, get_or, take, Some, sym, refl, ap, ◌∙◌, subst, ap₂, ⊎_elim, add-one, arith}
+use Rattle.std.proofs.Common.{◌≡◌, ℕ, zero, suc, ◌+◌, ◌<◌, ◌≤◌, min, Bool, false, cond, ◌||◌, eqb, ltb, List, [], ◌∷◌, length, get_or, take, Some, sym, refl, ap, ◌∙◌, subst, ap₂, ⊎_elim, add-one, arith}
 use mathlib.Core.Path.{fun_ext}
 use Rattle.std.proofs.lemmas.List.{get_or_past}
 use Rattle.std.proofs.lemmas.Bool.{or_parts, eqb-false, ltb-false, ne_eqb, cases_lt}
@@ -8,7 +8,6 @@ use Rattle.std.specs.List.{list_any, count_by}
 use Rattle.console.specs.Numbers.{outside, SetOf}
 use Rattle.runs.specs.Seen.{how_many}
 use Rattle.runs.specs.Watching.{watches}
-use Rattle.runs.proofs.Left.{watches_at}
 use Rattle.pairing.specs.Verdict.{among}
 
 -- how many are watched: so many flags are up
@@ -51,7 +50,7 @@ pub record Counted (n : ℕ) (watched : List ℕ) (set : List Bool) (count : ℕ
   pub is : watches set ≡ among watched
   pub counts : count ≡ how_many (among watched) n
 
-pub counted : (n n₁ : ℕ) (watched : List ℕ) (set : List Bool) (count : ℕ) → n₁ ≡ n → SetOf n₁ watched (Some set) → count ≡ how_many (watches set) n₁ → Counted n watched set count
+pub counted : (n n₁ : ℕ) (watched : List ℕ) (set : List Bool) (count : ℕ) → n₁ ≡ n → SetOf n₁ watched (Some set) → count ≡ how_many (watches set) n → Counted n watched set count
 counted n n₁ watched set count e h counts =
     let same : watches set ≡ among watched = same_set n₁ watched set h.0 h.1 h.2 in
-    subst (λ (k : ℕ). Counted k watched set count) e (record { in_circle = h.0; is = same; counts = counts ∙ ap (λ (c : ℕ → Bool). how_many c n₁) same })
+    record { in_circle = subst (λ (k : ℕ). list_any (outside k) watched ≡ false) e h.0; is = same; counts = counts ∙ ap (λ (c : ℕ → Bool). how_many c n) same }

@@ -1,5 +1,5 @@
 -- What differs between two runs.
-use Rattle.std.specs.Prelude.{◌≡◌, ℕ, ◌+◌, Bool, cond, not, ◌&&◌, List, [], ◌∷◌, Some, None, Option, ◌==◌, slice_index}
+use Rattle.std.specs.Prelude.{ℕ, ◌+◌, Bool, cond, not, ◌&&◌, List, [], ◌∷◌, Some, None, Option, ◌==◌, slice_index}
 use Rattle.sheets.specs.Lines.{gives}
 use Rattle.sheets.specs.Meaning.{figures_after}
 use Rattle.pairing.specs.declared.differing.Place.{Place}

@@ -1,4 +1,4 @@
-use Rattle.std.proofs.Common.{◌≡◌, ℕ, ◌+◌, ◌-◌, T, List, take, Some, Option, sym, refl, ap, ◌∙◌, subst, get_or, arith, Bor}
+use Rattle.std.proofs.Common.{◌≡◌, ℕ, T, List, take, Some, Option, sym, refl, ap, ◌∙◌, subst, get_or, arith, Bor}
 use Rattle.runs.specs.Watching.{watches}
 use Rattle.sheets.specs.Families.{family, of}
 use Rattle.sheets.specs.Lines.{good, figures_needed}
@@ -6,7 +6,7 @@ use Rattle.sheets.specs.declared.line.Line.{Line}
 use Rattle.sheets.specs.declared.line.Line.TheVariants.{Input}
 use Rattle.pairing.specs.Differing.{figure_differs}
 use Rattle.pairing.specs.declared.differing.Place.{Place}
-use Rattle.pairing.proofs.Differs.{Compared, compared_none, input_member, found, not-here, passed, compared_all, taken_by}
+use Rattle.pairing.proofs.Differs.{compared_none, input_member, found, not-here, passed, compared_all, taken_by}
 use Rattle.pairing.proofs.differing.first_figure.Goals as goal
 use Rattle.pairing.proofs.differing.first_figure.Goals.{in-Input+else-watched-member, in_default}
 

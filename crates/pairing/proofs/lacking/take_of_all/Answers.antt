@@ -1,9 +1,9 @@
-use Rattle.std.proofs.Common.{◌≡◌, ℕ, ◌+◌, ◌-◌, ◌≤◌, List, refl, sym, ap, ◌∙◌, subst, arith, Bor}
+use Rattle.std.proofs.Common.{ℕ, ◌+◌, ◌-◌, List, refl, sym, ◌∙◌, arith, Bor}
 use Rattle.std.proofs.lemmas.Result.{err_from_is_err_and}
 use Rattle.sheets.specs.Families.{family, of}
 use Rattle.sheets.specs.Sheets.{circle_of}
 use Rattle.sheets.specs.declared.refusal.Refusal.TheVariants.{NoCoins}
-use Rattle.pairing.proofs.Taking.{Dealt, dealt_more, dealt-short, dealt_all, drawn_err, drawn_ok}
+use Rattle.pairing.proofs.Taking.{dealt_more, dealt-short, dealt_all, drawn_err, drawn_ok}
 use Rattle.pairing.proofs.lacking.take_of_all.Goals as goal
 
 abbrev slices : List (Bor (List ℕ)) → ℕ → List ℕ
