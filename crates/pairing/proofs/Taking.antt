@@ -19,17 +19,14 @@ use Rattle.runs.proofs.Entered.{has-enough}
 use Rattle.pairing.specs.Lacking.{short_in_either, runs_out_in_either, figures_in, other_figures_in, coins_in, Taken, TakenAs, DealersAs}
 use Rattle.pairing.specs.declared.lacking.Left.{Left}
 use Rattle.runs.proofs.Coins.{any_no, any_yes, any_done}
-use Rattle.runs.proofs.Left.{from, from_none}
-use Rattle.runs.proofs.Producing.{drawn_by, drawn_none, drawn_more, next_undrawn}
+use Rattle.runs.proofs.Left.{from}
+use Rattle.runs.proofs.Producing.{drawn_by, drawn_more, next_undrawn}
 
 module _ (z : Circle) (coins : ℕ → List ℕ) where
   -- after k members have dealt
   pub record Dealt (k : ℕ) (left : ℕ → List ℕ) : Type 0 where
     pub drawn : left ≡ drawn_by z.t k coins
     pub none : list_any (lacks z coins) (from k z.n) ≡ list_any (lacks z coins) (members z.n)
-
-  pub dealt_none : Dealt 0 coins
-  dealt_none = record { drawn = drawn_none z.t coins; none = ap (list_any (lacks z coins)) (from_none z.n) }
 
   -- member w is the next, and k members have dealt before
   module _ (k w : ℕ) (left : ℕ → List ℕ) (next : w ≡ k + 1) where

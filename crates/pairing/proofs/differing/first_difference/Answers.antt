@@ -3,6 +3,7 @@ use Rattle.std.proofs.lemmas.Iterator.{YieldsList-from_slice, YieldsList-from_zi
 use Rattle.std.proofs.lemmas.Iterator.Adapters.{position_from-zero}
 use Rattle.std.proofs.lemmas.Iterator.Search.{position_from_yields_List}
 use Rattle.std.specs.List.{position, zip}
+use Rattle.pairing.specs.Differing.{differ}
 use Rattle.pairing.proofs.Differs.{differ_by}
 use Rattle.pairing.proofs.differing.first_difference.Goals as goal
 
@@ -14,4 +15,5 @@ returns c =
     let pairs = YieldsList-from_zip {s = c.zip.result} (YieldsList-from_slice left (cc)) (YieldsList-from_slice right (cc)) in
     let first : c.position.result ≡ position differs (zip left right) =
     position_from_yields_List differs c.position.new.self _ c.position.result c.position.ensures.ran pairs (λ x b q k. search (rules, tests)) in
-    first ∙ (position_from-zero differs (zip left right) ∙ sym (differ_by 0 left right))
+    let place : c.position.result ≡ differ 0 left right = first ∙ (position_from-zero differs (zip left right) ∙ sym (differ_by 0 left right)) in
+    search (rules, place)
