@@ -10,6 +10,7 @@ pub fn arguments(rt: &HostRuntime, usage: &'static str) -> Result<Vec<String>, F
 
 // A file, whole.
 pub fn file(rt: &HostRuntime, name: &str) -> Result<Vec<u8>, Failure> {
+    // Not by map_err: to keep the name can fail too.
     match fs::read(rt, name) {
         Ok(bytes) => Ok(bytes),
         Err(_) => Err(Failure::Unreadable(String::from_str(rt.alloc(), name)?)),

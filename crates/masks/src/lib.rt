@@ -4,9 +4,8 @@
 ghost use Rattle.std.specs.Prelude.{◌≡◌, ℕ, ◌+◌, ◌<◌, ◌≤◌, T, length, filter, slice_index, slice_index_or};
 ghost use Rattle.field.specs.Field.{p, ◌⊕◌, ◌⊗◌, below};
 ghost use Rattle.masks.specs.Coefficients.{coefficient, Holds};
-ghost use Rattle.runs.specs.Pairing.{linear_product, mask as mask_of, shifted};
+ghost use Rattle.runs.specs.Pairing.{mask as mask_of};
 ghost use Rattle.shares.specs.Circle.{members};
-ghost use Rattle.shares.specs.Polynomial.{scaled};
 ghost use Rattle.runs.specs.Watching.{watches};
 
 // The first eight coefficients of the product of 1 - x / w over the watched w among 1 to n. At most seven members are

@@ -23,10 +23,8 @@ pub(crate) fn conclude(
 {
     let mut figures = Vec::from_slice(heap, figures)?;
     let mut other_figures = Vec::from_slice(heap, other_figures)?;
-    Ok(
-        match first_figure(sheet, watched, &mut figures, &mut other_figures) {
-            Some(found) => Pairing::FigureDiffers(found.member, found.place),
-            None => Pairing::Coins(coins),
-        },
-    )
+    match first_figure(sheet, watched, &mut figures, &mut other_figures) {
+        Some(found) => Ok(Pairing::FigureDiffers(found.member, found.place)),
+        None => Ok(Pairing::Coins(coins)),
+    }
 }

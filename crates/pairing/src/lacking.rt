@@ -1,5 +1,4 @@
 // Figures and coins that run out.
-ghost use Rattle.std.specs.Prelude.{◌≡◌};
 ghost use Rattle.pairing.specs.Lacking.{LentAs, NeitherAs, TakenAs, DealersAs, figures_in, other_figures_in, coins_in, runs_out_in_either};
 ghost use Rattle.sheets.specs.Families.{family, of};
 ghost use Rattle.sheets.specs.Sheets.{circle_of, lines_in};
