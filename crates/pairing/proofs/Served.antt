@@ -18,7 +18,7 @@ use Rattle.runs.specs.Pairing.{there}
 use Rattle.runs.specs.Seen.{how_many, sees}
 use Rattle.runs.proofs.Alike.{alike}
 use Rattle.runs.proofs.Enough.{enough}
-use Rattle.runs.proofs.Checked.{reduced-from}
+use Rattle.sheets.proofs.Checked.{reduced-from}
 use Rattle.pairing.specs.Answers.{Serve, PairedAs, ConcludedAs}
 use Rattle.pairing.specs.declared.answer.Pairing.{Pairing}
 use Rattle.pairing.specs.declared.answer.Pairing.TheVariants.{Coins as PairedCoins, OpenedDiffers, FigureDiffers, NoPairing}
