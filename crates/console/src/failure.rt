@@ -1,48 +1,42 @@
 // Why a program ends with status 1, as the line that it writes on standard error.
+ghost use Rattle.std.specs.Prelude.{◌≡◌};
+ghost use Rattle.console.specs.declared.failure.Failure.TheVariants.{Refused};
+ghost use Rattle.sheets.specs.declared.refusal.Refusal.TheVariants.{NoMemory};
+
 use sheets::Refusal;
 use std::alloc::{AllocError, AllocFailed};
-use std::{fmt, io};
+use std::io;
+use thiserror::Error;
 
-#[derive(Drop)]
+#[derive(Debug, Drop, Error)]
 pub enum Failure {
     // wrong use, with the line that tells the right one
+    #[error("{0}")]
     Usage(&'static str),
     // a file that cannot be read, by its name
+    #[error("cannot read {0}")]
     Unreadable(String),
-    Refused(Refusal),
+    #[error(transparent)]
+    Refused(#[from] Refusal),
     // standard output does not take what is written
+    #[error("cannot write the output")]
     NoOutput,
 }
 
-impl fmt::Display for Failure {
-    fn fmt<W: fmt::Write>(&self, f: &mut fmt::Formatter<W>) -> fmt::Result {
-        match self {
-            Failure::Usage(line) => f.write_str(line),
-            Failure::Unreadable(name) => {
-                let name = name.as_str();
-                write!(f, "cannot read {name}")
-            }
-            Failure::Refused(refusal) => write!(f, "{refusal}"),
-            Failure::NoOutput => f.write_str("cannot write the output"),
-        }
-    }
-}
-
+// A derived `From` keeps the error that it turns, and these let it go.
 impl From<AllocError> for Failure {
+    ghost from_gives = { λ _ f. f ≡ Refused NoMemory };
+
     fn from(_: AllocError) -> Failure {
         Failure::Refused(Refusal::NoMemory)
     }
 }
 
 impl<T: Drop> From<AllocFailed<T>> for Failure {
+    ghost from_gives = { λ _ f. f ≡ Refused NoMemory };
+
     fn from(_: AllocFailed<T>) -> Failure {
         Failure::Refused(Refusal::NoMemory)
-    }
-}
-
-impl From<Refusal> for Failure {
-    fn from(refusal: Refusal) -> Failure {
-        Failure::Refused(refusal)
     }
 }
 

@@ -4,18 +4,13 @@ use std::{env, fs};
 
 // All words after the program's own name. A word that is no text is wrong use.
 pub fn arguments(rt: &HostRuntime, usage: &'static str) -> Result<Vec<String>, Failure> {
-    let Ok(args) = env::args(rt) else {
-        return Err(Failure::Usage(usage));
-    };
-    let mut words = Vec::new(rt.alloc());
-    for word in args.skip(1) {
-        words.push(word)?;
-    }
-    Ok(words)
+    let args = env::args(rt).map_err(|_| Failure::Usage(usage))?;
+    Ok(args.skip(1).collect(rt.alloc())?)
 }
 
 // A file, whole.
 pub fn file(rt: &HostRuntime, name: &str) -> Result<Vec<u8>, Failure> {
+    // Not by map_err: to keep the name can fail too.
     match fs::read(rt, name) {
         Ok(bytes) => Ok(bytes),
         Err(_) => Err(Failure::Unreadable(String::from_str(rt.alloc(), name)?)),

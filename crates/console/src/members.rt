@@ -1,11 +1,12 @@
 // Sets of members, as the words of the command line name them.
-ghost use Rattle.std.specs.Prelude.{◌≡◌, map, string_bytes};
+ghost use Rattle.std.specs.Prelude.{◌≡◌, map, nat_eq, string_bytes};
+ghost use Rattle.std.specs.List.{list_any};
 ghost use Rattle.console.specs.Numbers.{outside, SetOf, WordsAs};
 
 use crate::failure::Failure;
 use crate::numbers::member_number;
-use sheets::Refusal;
 use std::alloc::Global;
+use std::array;
 
 // The numbers in the words, or none if a word is no decimal number.
 pub fn member_words(heap: Global, words: &[String]) -> Result<Option<Vec<u32>>, Failure>
@@ -16,9 +17,7 @@ pub fn member_words(heap: Global, words: &[String]) -> Result<Option<Vec<u32>>, 
         let Some(number) = member_number(word.as_bytes()) else {
             return Ok(None);
         };
-        let Ok(()) = numbers.push(number) else {
-            return Err(Failure::Refused(Refusal::NoMemory));
-        };
+        numbers.push(number)?;
     }
     Ok(Some(numbers))
 }
@@ -29,16 +28,24 @@ fn is_outside(n: usize, number: u32) -> bool
     number == 0 || number as usize > n.min(15)
 }
 
+fn is_any_outside(n: usize, numbers: &[u32]) -> bool
+    ensures { result ≡ list_any (outside n) numbers.now }
+{
+    numbers.iter().any(|number| is_outside(n, *number))
+}
+
+fn is_among(member: usize, numbers: &[u32]) -> bool
+    ensures { result ≡ list_any (λ number. nat_eq number member) numbers.now }
+{
+    numbers.iter().any(|number| *number as usize == member)
+}
+
 // The set of these members among 1 to n, or none if one is no member. Order and repetition don't matter.
 pub fn member_set(n: usize, numbers: &[u32]) -> Option<[bool; 15]>
     ensures { SetOf n numbers.now result }
 {
-    let mut set = [false; 15];
-    for number in numbers {
-        if is_outside(n, *number) {
-            return None;
-        }
-        set[*number as usize - 1] = true;
+    if is_any_outside(n, numbers) {
+        return None;
     }
-    Some(set)
+    Some(array::from_fn(|k| is_among(k + 1, numbers)))
 }

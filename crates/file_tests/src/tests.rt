@@ -1,32 +1,23 @@
 use files::*;
 use sheets::Refusal;
-use std::alloc::Global;
 use std::test::Fail;
 
-// What a file of one list is to give: the list, or the number of the refusal.
-type Wanted = Result<&'static [u32], u32>;
-
-fn told(answer: Result<Vec<u32>, Refusal>, wanted: Wanted) -> bool {
-    match (answer, wanted) {
-        (Ok(list), Ok(same)) => list.as_slice() == same,
-        (Err(refusal), Err(number)) => refusal.number() == number,
-        (_, _) => false,
-    }
-}
+// What a file of one list is to give.
+type Wanted = Result<&'static [u32], &'static Refusal>;
 
 const FIGURES: [(&[u8], Wanted); 6] = [
     (&[], Ok(&[])),
     (&[0, 0, 1, 2, 127, 255, 255, 254], Ok(&[258, 2147483646])),
-    (&[0], Err(1)),
-    (&[127, 255, 255, 255], Err(3)),
-    (&[255, 255, 255, 255], Err(3)),
-    (&[127, 255, 255, 255, 0], Err(1)),
+    (&[0], Err(&Refusal::Malformed)),
+    (&[127, 255, 255, 255], Err(&Refusal::OutOfRange)),
+    (&[255, 255, 255, 255], Err(&Refusal::OutOfRange)),
+    (&[127, 255, 255, 255, 0], Err(&Refusal::Malformed)),
 ];
 
 #[test]
 fn figure_files(rt: HostRuntime) {
     for (bytes, wanted) in FIGURES {
-        assert!(rt; told(read_figures(rt.alloc(), bytes), wanted));
+        assert_eq!(rt; read_figures(rt.alloc(), bytes).as_deref(), wanted);
     }
 }
 
@@ -34,13 +25,13 @@ const COINS: [(&[u8], Wanted); 4] = [
     (&[], Ok(&[])),
     (&[255, 255, 255, 255, 127, 255, 255, 255], Ok(&[])),
     (&[128, 0, 0, 0, 255, 255, 255, 254], Ok(&[0, 2147483646])),
-    (&[255, 255, 255], Err(1)),
+    (&[255, 255, 255], Err(&Refusal::Malformed)),
 ];
 
 #[test]
 fn coin_files(rt: HostRuntime) {
     for (bytes, wanted) in COINS {
-        assert!(rt; told(read_coins(rt.alloc(), bytes), wanted));
+        assert_eq!(rt; read_coins(rt.alloc(), bytes).as_deref(), wanted);
     }
 }
 
@@ -49,13 +40,13 @@ const ORDERS: [(&[u8], Wanted); 2] = [
         &[255, 255, 255, 255, 1, 0, 0, 2],
         Ok(&[4294967295, 16777218]),
     ),
-    (&[1, 2, 3], Err(1)),
+    (&[1, 2, 3], Err(&Refusal::Malformed)),
 ];
 
 #[test]
 fn orders(rt: HostRuntime) {
     for (bytes, wanted) in ORDERS {
-        assert!(rt; told(read_order(rt.alloc(), bytes), wanted));
+        assert_eq!(rt; read_order(rt.alloc(), bytes).as_deref(), wanted);
     }
 }
 
@@ -64,14 +55,6 @@ const TWO: [u8; 32] = [
     0, 0, 0, 1, 0, 0, 0, 7, 0, 0, 0, 2, 128, 0, 0, 5, 127, 255, 255, 255, 0, 0, 0, 0, 0, 0, 0, 1,
     0, 0, 0, 9,
 ];
-
-// The number of the refusal, or 0.
-fn refusal_of(heap: Global, n: usize, bytes: &[u8]) -> u32 {
-    match read_circle_inputs(heap, n, bytes) {
-        Ok(_) => 0,
-        Err(refusal) => refusal.number(),
-    }
-}
 
 #[test]
 fn inputs_of_two(rt: HostRuntime) -> Result<(), Fail> {
@@ -87,17 +70,23 @@ fn inputs_of_two(rt: HostRuntime) -> Result<(), Fail> {
 #[test]
 fn cut_inputs(rt: HostRuntime) {
     for len in 0..TWO.len() {
-        assert_eq!(rt; refusal_of(rt.alloc(), 2, &TWO[0..len]), 1);
+        assert_eq!(rt;
+            read_circle_inputs(rt.alloc(), 2, &TWO[0..len]).err(),
+            Some(Refusal::Malformed)
+        );
     }
-    assert_eq!(rt; refusal_of(rt.alloc(), 2, &TWO), 0);
+    assert_eq!(rt; read_circle_inputs(rt.alloc(), 2, &TWO).err(), None);
 }
 
 #[test]
 fn other_numbers_of_members(rt: HostRuntime) {
     for n in [0, 1, 3, 15, usize::MAX] {
-        assert_eq!(rt; refusal_of(rt.alloc(), n, &TWO), 1);
+        assert_eq!(rt;
+            read_circle_inputs(rt.alloc(), n, &TWO).err(),
+            Some(Refusal::Malformed)
+        );
     }
-    assert_eq!(rt; refusal_of(rt.alloc(), 0, &[]), 0);
+    assert_eq!(rt; read_circle_inputs(rt.alloc(), 0, &[]).err(), None);
 }
 
 // A figure that is too large, and then a count that does not fit besides.
@@ -105,9 +94,15 @@ fn other_numbers_of_members(rt: HostRuntime) {
 fn form_before_range(rt: HostRuntime) {
     let mut bytes = TWO;
     bytes[4] = 128;
-    assert_eq!(rt; refusal_of(rt.alloc(), 2, &bytes), 3);
+    assert_eq!(rt;
+        read_circle_inputs(rt.alloc(), 2, &bytes).err(),
+        Some(Refusal::OutOfRange)
+    );
     bytes[27] = 255;
-    assert_eq!(rt; refusal_of(rt.alloc(), 2, &bytes), 1);
+    assert_eq!(rt;
+        read_circle_inputs(rt.alloc(), 2, &bytes).err(),
+        Some(Refusal::Malformed)
+    );
 }
 
 #[test]

@@ -1,10 +1,8 @@
 -- What n members bring, as a loop over them meets it: what was read so far, and what is left.
 use Rattle.std.proofs.Common.{◌≡◌, ℕ, suc, ◌+◌, ◌-◌, ◌<◌, ◌≤◌, List, [], ◌∷◌, ◌++◌, map, length, Some, None, Option, sym, refl, ap, ◌∙◌, ap₂, arith}
 use Rattle.std.proofs.lemmas.List.{append_assoc, append-nil, nil_from_length, map_push}
-use Rattle.std.specs.Option.{option_map}
-use Rattle.files.specs.Circles.{Got, and_then, each, cut, figures_one, Member, member_one, Given, gathered}
-use Rattle.files.specs.Files.{coins_of}
-use Rattle.files.specs.Words.{words}
+use Rattle.std.specs.Option.{option_map, option_and_then}
+use Rattle.files.specs.Circles.{Got, each, Member, Given, gathered}
 
 abbrev pub prefixed : {X : Type 0} → List X → Option (List X) → Option (List X)
 prefixed done o = option_map (λ xs. done ++ xs) o
@@ -25,14 +23,14 @@ module _ {X : Type 0} (one : List ℕ → Option (Got X)) (n : ℕ) where
   pub each_none : (bytes : List ℕ) → So 0 [] bytes bytes
   each_none bytes = let e : n - 0 ≡ n = omega arith in rw e (prefixed_nil (each one n bytes))
 
-  each-suc : (i : ℕ) (rest : List ℕ) → i < n → each one (n - i) rest ≡ and_then (one rest) (λ g. option_map (λ xs. g.what ∷ xs) (each one (n - (i + 1)) g.rest))
+  each-suc : (i : ℕ) (rest : List ℕ) → i < n → each one (n - i) rest ≡ option_and_then (λ g. option_map (λ xs. g.what ∷ xs) (each one (n - (i + 1)) g.rest)) (one rest)
   unfolding each
   each-suc i rest h = let e : n - i ≡ suc (n - (i + 1)) = omega arith in rw e
 
-  pub each_more : (i : ℕ) (done : List X) (rest bytes : List ℕ) (x : X) (after : List ℕ) → i < n → one rest ≡ Some (record { what = x; rest = after }) → So i done rest bytes → So (i + 1) (done ++ x ∷ []) after bytes
-  each_more i done rest bytes x after h e inv =
+  pub each_more : (i : ℕ) (done new : List X) (rest bytes : List ℕ) (x : X) (after : List ℕ) → i < n → one rest ≡ Some (record { what = x; rest = after }) → new ≡ done ++ x ∷ [] → So i done rest bytes → So (i + 1) new after bytes
+  each_more i done new rest bytes x after h e q inv =
       let first : each one (n - i) rest ≡ option_map (λ xs. x ∷ xs) (each one (n - (i + 1)) after) = rw e at (each-suc i rest h) in
-      sym (prefixed_cons done x (each one (n - (i + 1)) after)) ∙ (ap (prefixed done) (sym first) ∙ inv)
+      rw q (sym (prefixed_cons done x (each one (n - (i + 1)) after)) ∙ (ap (prefixed done) (sym first) ∙ inv))
 
   pub each_stop : (i : ℕ) (done : List X) (rest bytes : List ℕ) → i < n → one rest ≡ None → So i done rest bytes → each one n bytes ≡ None
   each_stop i done rest bytes h e inv =
@@ -59,28 +57,11 @@ module _ {X : Type 0} (one : List ℕ → Option (Got X)) (n : ℕ) where
       sym inv ∙ (rw (e, each-zero-nil rest none, append-nil done))
 
 -- one more list, where f takes a list out of an element
-pub one_more : {X : Type 0} (f : X → List ℕ) (new old mid : List X) (x : X) (xs : List ℕ) → new ≡ mid ++ x ∷ [] → mid ≡ old → f x ≡ xs → map f new ≡ map f old ++ xs ∷ []
-one_more f new old mid x xs n m e = rw (n, m, map_push f old x, e)
+pub one_more : {X : Type 0} (f : X → List ℕ) (new old : List X) (x : X) (xs : List ℕ) → new ≡ old ++ x ∷ [] → f x ≡ xs → map f new ≡ map f old ++ xs ∷ []
+one_more f new old x xs n e = rw (n, map_push f old x, e)
 
-pub figures_none : (bytes : List ℕ) → cut bytes ≡ None → figures_one bytes ≡ None
-figures_none bytes e = rw e
-
-pub figures-some : (bytes part rest : List ℕ) → cut bytes ≡ Some (record { what = part; rest = rest }) → figures_one bytes ≡ Some (record { what = words part; rest = rest })
-figures-some bytes part rest e = rw e
-
-pub gathered_more : (done : List Member) (m : Member) (g h : Given) (fs cs : List ℕ) → gathered done ≡ g → fs ≡ m.figures → cs ≡ m.coins → h.figures ≡ g.figures ++ fs ∷ [] → h.coins ≡ g.coins ++ cs ∷ [] → gathered (done ++ m ∷ []) ≡ h
-gathered_more done m g h fs cs e mf mc f c =
-    let figures : map (λ (n : Member). n.figures) (done ++ m ∷ []) ≡ h.figures =
-    map_push (λ (n : Member). n.figures) done m ∙ (ap₂ (λ (k : Given) (xs : List ℕ). k.figures ++ xs ∷ []) e (sym mf) ∙ sym f) in
-    let coins : map (λ (n : Member). n.coins) (done ++ m ∷ []) ≡ h.coins =
-    map_push (λ (n : Member). n.coins) done m ∙ (ap₂ (λ (k : Given) (xs : List ℕ). k.coins ++ xs ∷ []) e (sym mc) ∙ sym c) in
-    ap₂ (λ (a b : List (List ℕ)). record { figures = a; coins = b }) figures coins
-
-pub member_none : (bytes : List ℕ) → cut bytes ≡ None → member_one bytes ≡ None
-member_none bytes e = rw e
-
-pub member_half : (bytes figures rest : List ℕ) → cut bytes ≡ Some (record { what = figures; rest = rest }) → cut rest ≡ None → member_one bytes ≡ None
-member_half bytes figures rest e f = rw (e, f)
-
-pub member-some : (bytes figures mid coins rest : List ℕ) → cut bytes ≡ Some (record { what = figures; rest = mid }) → cut mid ≡ Some (record { what = coins; rest = rest }) → member_one bytes ≡ Some (record { what = record { figures = words figures; coins = coins_of (words coins) }; rest = rest })
-member-some bytes figures mid coins rest e f = rw (e, f)
+pub gathered_more : (done : List Member) (m : Member) (g h : Given) → gathered done ≡ g → h.figures ≡ g.figures ++ m.figures ∷ [] → h.coins ≡ g.coins ++ m.coins ∷ [] → gathered (done ++ m ∷ []) ≡ h
+gathered_more done m g h e f c =
+    ap₂ (λ (a b : List (List ℕ)). record { figures = a; coins = b })
+    (map_push (λ (n : Member). n.figures) done m ∙ (ap (λ (k : Given). k.figures ++ m.figures ∷ []) e ∙ sym f))
+    (map_push (λ (n : Member). n.coins) done m ∙ (ap (λ (k : Given). k.coins ++ m.coins ∷ []) e ∙ sym c))

@@ -1,10 +1,10 @@
 -- When a figure file is refused, and with which number.
-use Rattle.std.proofs.Common.{◌≡◌, ℕ, suc, ◌%◌, ◌<◌, ◌≤◌, Bool, true, false, cond, ◌&&◌, T, ltb, List, [], ◌∷◌, length, get_or, Ok, Err, Result, sym, refl, subst, inl, inr, arith}
+use Rattle.std.proofs.Common.{◌≡◌, ℕ, suc, ◌%◌, ◌<◌, ◌≤◌, Bool, true, false, cond, ◌&&◌, ltb, List, [], ◌∷◌, length, get_or, Ok, Err, Result, refl, inl, inr, arith}
 use Rattle.field.specs.Field.{p, below}
-use Rattle.field.proofs.Below.{below-get_or}
 use Rattle.sheets.specs.declared.refusal.Refusal.{Refusal}
 use Rattle.sheets.specs.declared.refusal.Refusal.TheVariants.{Malformed, OutOfRange}
-use Rattle.std.proofs.lemmas.Bool.{eq-eqb, ne_eqb, eqb-true, ltb-false, cases_Bool}
+use Rattle.std.proofs.lemmas.List.Folds.{list_all_at}
+use Rattle.std.proofs.lemmas.Bool.{le-ltb, eq-eqb, ne_eqb, eqb-true, ltb-false, cases_Bool}
 use Rattle.files.specs.Files.{whole}
 use Rattle.files.specs.Laws.{FigureAnswers}
 use Rattle.files.specs.Words.{words}
@@ -14,19 +14,13 @@ abbrev answer : Bool → Bool → List ℕ → Result (List ℕ) Refusal
 answer w b ws = cond w (cond b (Ok ws) (Err OutOfRange)) (Err Malformed)
 
 not_whole : (w b : Bool) (ws : List ℕ) → answer w b ws ≡ Err Malformed → w ≡ true → ⊥
-not_whole true true ws e q = let z : ◌≡◌ {A = ℕ} 0 1 = cc in omega arith
-not_whole true false ws e q = let z : ◌≡◌ {A = ℕ} 0 1 = cc in omega arith
-not_whole false b ws e q = let z : ◌≡◌ {A = ℕ} 0 1 = cc in omega arith
+not_whole w b ws e q = grind arith
 
 too_large : (w b : Bool) (ws : List ℕ) → answer w b ws ≡ Err OutOfRange → (w ≡ true) × (b ≡ false)
-too_large true true ws e = let z : ◌≡◌ {A = ℕ} 0 1 = cc in absurd (omega arith)
-too_large true false ws e = (refl, refl)
-too_large false b ws e = let z : ◌≡◌ {A = ℕ} 0 1 = cc in absurd (omega arith)
+too_large w b ws e = grind arith
 
 pub read_whole : (w b : Bool) (ws figures : List ℕ) → answer w b ws ≡ Ok figures → (w ≡ true) × (ws ≡ figures)
-read_whole true true ws figures e = (refl, cc)
-read_whole true false ws figures e = let z : ◌≡◌ {A = ℕ} 0 1 = cc in absurd (omega arith)
-read_whole false b ws figures e = let z : ◌≡◌ {A = ℕ} 0 1 = cc in absurd (omega arith)
+read_whole w b ws figures e = grind arith
 
 abbrev Large : List ℕ → Type 0
 Large ws = (k : ℕ) × (k < length ws) × (p ≤ get_or ws k 0)
@@ -36,15 +30,11 @@ large_step x xs true e h next = let l = next h in (suc l.0, omega (arith, l.1), 
 large_step x xs false e h next = (0, omega arith, ltb-false x p e)
 
 large_from : (ws : List ℕ) → below ws ≡ false → Large ws
-large_from [] e = let z : ◌≡◌ {A = ℕ} 0 1 = cc in absurd (omega arith)
+large_from [] e = absurd (grind arith)
 large_from (x ∷ xs) e = large_step x xs (ltb x p) refl e (large_from xs)
 
 not_below : (ws : List ℕ) → Large ws → below ws ≡ false
-not_below ws l =
-    elim (cases_Bool (below ws)) [
-      | inl t ↦ let small = below-get_or ws l.0 l.1 (subst T (sym t) tt) in absurd (omega (arith, l.2))
-      | inr f ↦ f
-    ]
+not_below ws l = list_all_at (λ x. ltb x p) ws l.0 0 l.1 (le-ltb _ p l.2)
 
 in_field : (ws : List ℕ) → (Large ws → ⊥) → below ws ≡ true
 in_field ws ok = elim (cases_Bool (below ws)) [ inl t ↦ t | inr f ↦ absurd (ok (large_from ws f)) ]
@@ -54,13 +44,13 @@ figure_answers bytes =
     let n : ℕ = length bytes % 4 in
     let ws : List ℕ = words bytes in
     record {
-      malformed = record {
-        to = λ e q. not_whole (whole bytes) (below ws) ws e (eq-eqb n 0 q);
-        from = λ ne. rw (ne_eqb n 0 ne);
-      };
-      out_of_range = record {
-        to = λ e. let h = too_large (whole bytes) (below ws) ws e in (eqb-true n 0 h.0, large_from ws h.1);
-        from = λ h. rw (eq-eqb n 0 h.0, not_below ws h.1);
-      };
+      malformed = (
+        λ e q. not_whole (whole bytes) (below ws) ws e (eq-eqb n 0 q),
+        λ ne. rw (ne_eqb n 0 ne),
+      );
+      out_of_range = (
+        λ e. let h = too_large (whole bytes) (below ws) ws e in (eqb-true n 0 h.0, large_from ws h.1),
+        λ h. rw (eq-eqb n 0 h.0, not_below ws h.1),
+      );
       else_read = λ q ok. rw (eq-eqb n 0 q, in_field ws ok);
     }

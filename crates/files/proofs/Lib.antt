@@ -3,10 +3,6 @@ pub mod CoinSteps
 pub mod CutSteps
 pub mod EachSteps
 pub mod FigureLaws
-pub mod FigureSteps
-pub mod LendSteps
 pub mod Refused
 pub mod RoundTrips
 pub mod WordSteps
-pub mod WriteCircle
-pub mod WriteSteps

@@ -1,5 +1,5 @@
 -- Writing and reading undo each other.
-use Rattle.std.proofs.Common.{◌≡◌, ℕ, ◌*◌, ◌%◌, ◌<◌, ◌≤◌, Bool, true, false, T, ltb, List, [], ◌∷◌, ◌++◌, length, Some, Ok, sym, refl, ap, ◌∙◌, ap₂, arith, ltb→lt, length-append}
+use Rattle.std.proofs.Common.{◌≡◌, ℕ, ◌*◌, ◌%◌, ◌<◌, ◌≤◌, Bool, true, T, ltb, List, [], ◌∷◌, ◌++◌, length, Some, Ok, sym, refl, ap, ◌∙◌, ap₂, arith, ltb→lt, length-append}
 use Rattle.field.specs.Field.{p, below, all_below}
 use Rattle.field.proofs.Below.{both_parts}
 use Rattle.std.proofs.lemmas.List.{take_at, drop_at}
@@ -13,22 +13,20 @@ use Rattle.files.specs.Writing.{bytes_of, list_bytes, circle_bytes, count_fits, 
 use Rattle.files.proofs.FigureLaws.{read_whole}
 
 true_from : (b : Bool) → T b → b ≡ true
-true_from true t = refl
-true_from false t = absurd t
+true_from b t = grind arith
 
 -- p and a count that fits are words
 word_below : (w : ℕ) (ws : List ℕ) → T (below (w ∷ ws)) → (w < 4294967296) × T (below ws)
 word_below w ws t = let h = both_parts (ltb w p) (below ws) t in let l = ltb→lt w p h.0 in (omega arith, h.1)
 
 words_bytes : (ws : List ℕ) → T (below ws) → words (bytes_of ws) ≡ ws
-unfolding words bytes_of
+unfolding words
 words_bytes [] t = refl
 words_bytes (w ∷ ws) t =
     let h = word_below w ws t in
     ap₂ (λ (x : ℕ) (xs : List ℕ). x ∷ xs) (word_back w h.0) (words_bytes ws h.1)
 
 length_bytes : (ws : List ℕ) → length (bytes_of ws) ≡ length ws * 4
-unfolding bytes_of
 length_bytes [] = refl
 length_bytes (w ∷ ws) = let h = length_bytes ws in omega arith
 
@@ -48,7 +46,7 @@ cut_list ws rest t =
     rw (word_back (length ws) fits, le-leb (length ws * 4) (length (bytes_of ws ++ rest)) long, take_at (bytes_of ws) rest (length ws * 4) len, drop_at (bytes_of ws) rest (length ws * 4) len)
 
 each-lists : (lists : List (List ℕ)) → T (all_below lists) → T (counts_fit lists) → each figures_one (length lists) (circle_bytes lists) ≡ Some lists
-unfolding each circle_bytes
+unfolding each
 each-lists [] t f = refl
 each-lists (ws ∷ lists) t f =
     let h = both_parts (below ws) (all_below lists) t in
@@ -59,11 +57,8 @@ read_circle : (lists : List (List ℕ)) → T (all_below lists) → T (counts_fi
 read_circle lists t f = rw (each-lists lists t f, true_from (all_below lists) t)
 
 bytes_words : (bytes : List ℕ) → T (all_bytes bytes) → length bytes % 4 ≡ 0 → bytes_of (words bytes) ≡ bytes
-unfolding words bytes_of
+unfolding words
 bytes_words [] t e = refl
-bytes_words (a ∷ []) t e = absurd (omega arith)
-bytes_words (a ∷ b ∷ []) t e = absurd (omega arith)
-bytes_words (a ∷ b ∷ c ∷ []) t e = absurd (omega arith)
 bytes_words (a ∷ b ∷ c ∷ d ∷ bytes) t e =
     let ha = both_parts (ltb a 256) (all_bytes (b ∷ c ∷ d ∷ bytes)) t in
     let hb = both_parts (ltb b 256) (all_bytes (c ∷ d ∷ bytes)) ha.1 in
@@ -72,6 +67,7 @@ bytes_words (a ∷ b ∷ c ∷ d ∷ bytes) t e =
     let here = bytes_back a b c d (ltb→lt a 256 ha.0) (ltb→lt b 256 hb.0) (ltb→lt c 256 hc.0) (ltb→lt d 256 hd.0) in
     let four : length bytes % 4 ≡ 0 = omega arith in
     ap₂ (λ (x y : List ℕ). x ++ y) here (bytes_words bytes hd.1 four)
+bytes_words bytes t e = absurd (omega arith)
 
 write_figures : (bytes figures : List ℕ) → T (all_bytes bytes) → figure_file bytes ≡ Ok figures → bytes_of figures ≡ bytes
 write_figures bytes figures t e =

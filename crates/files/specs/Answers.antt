@@ -1,23 +1,12 @@
 -- The answer of a reader: exactly what the bytes hold, or why they are refused, unless memory ran out.
 use Rattle.std.specs.Prelude.{◌≡◌, Ok, Err, Result}
 use Rattle.sheets.specs.declared.refusal.Refusal.{Refusal}
-use Rattle.sheets.specs.declared.refusal.Refusal.TheVariants.{NoMemory, Malformed, BadShape, OutOfRange, NotMadeYet, WrongAddress, OtherSheet, WrongLine, SecondGreeting, SecondShare, NoFigure, NoCoins, TooManyInputs}
+use Rattle.sheets.specs.declared.refusal.Refusal.TheVariants.{NoMemory}
 
 -- a fact that want of memory keeps open
 abbrev pub UnlessMemory : Refusal → Type 0 → Type 0
 UnlessMemory NoMemory P = Unit {0}
-UnlessMemory Malformed P = P
-UnlessMemory BadShape P = P
-UnlessMemory OutOfRange P = P
-UnlessMemory NotMadeYet P = P
-UnlessMemory WrongAddress P = P
-UnlessMemory OtherSheet P = P
-UnlessMemory WrongLine P = P
-UnlessMemory SecondGreeting P = P
-UnlessMemory SecondShare P = P
-UnlessMemory NoFigure P = P
-UnlessMemory NoCoins P = P
-UnlessMemory TooManyInputs P = P
+UnlessMemory e P = P
 
 -- `wanted` is what is to come of the bytes, and `held` is what a value that the code gives holds
 abbrev pub Answers : {V X : Type 0} → (V → X) → Result X Refusal → Result V Refusal → Type 0

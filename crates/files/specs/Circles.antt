@@ -3,7 +3,7 @@ use Rattle.std.specs.Prelude.{ℕ, zero, suc, ◌*◌, cond, List, [], ◌∷◌
 use Rattle.field.specs.Field.{all_below}
 use Rattle.sheets.specs.declared.refusal.Refusal.{Refusal}
 use Rattle.sheets.specs.declared.refusal.Refusal.TheVariants.{Malformed, OutOfRange}
-use Rattle.std.specs.Option.{option_map}
+use Rattle.std.specs.Option.{option_map, option_and_then, ok_or}
 use Rattle.sheets.specs.Bytes.{word}
 use Rattle.files.specs.Files.{coins_of}
 use Rattle.files.specs.Words.{words}
@@ -13,27 +13,20 @@ pub record Got (X : Type 0) : Type 0 where
   pub what : X
   pub rest : List ℕ
 
-abbrev pub and_then : {X Y : Type 0} → Option X → (X → Option Y) → Option Y
-and_then None f = None
-and_then (Some x) f = f x
-
 -- the bytes of so many words, if they are there
 abbrev pub cut_words : ℕ → List ℕ → Option (Got (List ℕ))
 cut_words count bytes = cond (nat_le (count * 4) (length bytes)) (Some (record { what = take (count * 4) bytes; rest = drop (count * 4) bytes })) None
 
 -- a count, and the bytes of as many words
 unfoldable pub cut : List ℕ → Option (Got (List ℕ))
-cut [] = None
-cut (a ∷ []) = None
-cut (a ∷ b ∷ []) = None
-cut (a ∷ b ∷ c ∷ []) = None
 cut (a ∷ b ∷ c ∷ d ∷ bytes) = cut_words (word a b c d) bytes
+cut bytes = None
 
 -- what n members bring, where `one` reads a member's
 unfoldable pub each : {X : Type 0} → (List ℕ → Option (Got X)) → ℕ → List ℕ → Option (List X)
 each one zero [] = Some []
 each one zero (b ∷ bytes) = None
-each one (suc n) bytes = and_then (one bytes) (λ g. option_map (λ xs. g.what ∷ xs) (each one n g.rest))
+each one (suc n) bytes = option_and_then (λ g. option_map (λ xs. g.what ∷ xs) (each one n g.rest)) (one bytes)
 
 -- a member's figures
 abbrev pub figures_one : List ℕ → Option (Got (List ℕ))
@@ -46,8 +39,7 @@ figures_or (Some figures) = cond (all_below figures) (Ok figures) (Err OutOfRang
 
 -- the structure alone
 abbrev pub formed : {X : Type 0} → Option X → Result X Refusal
-formed None = Err Malformed
-formed (Some x) = Ok x
+formed o = ok_or o Malformed
 
 abbrev pub circle_figures : ℕ → List ℕ → Result (List (List ℕ)) Refusal
 circle_figures n bytes = figures_or (each figures_one n bytes)
@@ -59,8 +51,7 @@ pub record Member : Type 0 where
 
 abbrev pub member_one : List ℕ → Option (Got Member)
 member_one bytes =
-    and_then (cut bytes) λ f.
-    option_map (λ c. record { what = record { figures = words f.what; coins = coins_of (words c.what) }; rest = c.rest }) (cut f.rest)
+    option_and_then (λ f. option_map (λ c. record { what = record { figures = words f.what; coins = coins_of (words c.what) }; rest = c.rest }) (cut f.rest)) (cut bytes)
 
 -- each member's figures and each member's coins
 pub record Given : Type 0 where

@@ -1,9 +1,9 @@
 -- What a file holds, or the refusal that it is given.
-use Rattle.std.specs.Prelude.{ℕ, ◌%◌, Bool, cond, List, [], ◌∷◌, ◌++◌, length, Some, None, Ok, Err, Option, Result, ◌==◌}
+use Rattle.std.specs.Prelude.{ℕ, ◌%◌, Bool, cond, List, length, Some, None, Ok, Err, Option, Result, ◌==◌}
 use Rattle.field.specs.Field.{p, below}
 use Rattle.sheets.specs.declared.refusal.Refusal.{Refusal}
 use Rattle.sheets.specs.declared.refusal.Refusal.TheVariants.{Malformed, OutOfRange}
-use Rattle.std.specs.Option.{option_to_list}
+use Rattle.std.specs.List.{filter_map}
 use Rattle.files.specs.Words.{words}
 
 -- no byte is left over
@@ -25,9 +25,8 @@ low w = w % 2147483648
 abbrev pub coin_in : ℕ → Option ℕ
 coin_in w = cond (low w == p) None (Some (low w))
 
-unfoldable pub coins_of : List ℕ → List ℕ
-coins_of [] = []
-coins_of (w ∷ ws) = option_to_list (coin_in w) ++ coins_of ws
+abbrev pub coins_of : List ℕ → List ℕ
+coins_of = filter_map coin_in
 
 abbrev pub coin_file : List ℕ → Result (List ℕ) Refusal
 coin_file bytes = cond (whole bytes) (Ok (coins_of (words bytes))) (Err Malformed)

@@ -4,6 +4,5 @@ pub mod Files
 pub mod Held
 pub mod Laws
 pub mod Lists
-pub mod Parts
 pub mod Words
 pub mod Writing

@@ -4,8 +4,5 @@ use Rattle.sheets.specs.Bytes.{word}
 
 -- The words of some bytes. One to three bytes that are left over at the end make none.
 unfoldable pub words : List ℕ → List ℕ
-words [] = []
-words (a ∷ []) = []
-words (a ∷ b ∷ []) = []
-words (a ∷ b ∷ c ∷ []) = []
 words (a ∷ b ∷ c ∷ d ∷ bytes) = word a b c d ∷ words bytes
+words bytes = []

@@ -1,12 +1,13 @@
 // Files of a whole circle: for each member a count and as many words, once or twice.
-ghost use Rattle.std.specs.Prelude.{◌≡◌, T, map, IfOk, vec_items};
+ghost use Rattle.std.specs.Prelude.{T, IfOk};
 ghost use Rattle.field.specs.Field.{all_below};
 ghost use Rattle.files.specs.Answers.{Answers};
 ghost use Rattle.files.specs.Circles.{each, figures_one, formed, circle_figures};
 ghost use Rattle.files.specs.Lists.{lists as lists_of};
 
-use crate::parts::take_words;
-use sheets::{Refusal, are_below};
+use crate::parts::{check_end, cut};
+use crate::words::split_words;
+use sheets::{Refusal, are_all_below};
 use std::alloc::Global;
 
 // The figures of members 1 to n.
@@ -15,7 +16,7 @@ pub fn read_circle_figures(heap: Global, n: usize, bytes: &[u8]) -> Result<Vec<V
     ensures in_field { IfOk result (λ v. T (all_below (lists_of v))) }
 {
     let figures = read_lists(heap, n, bytes)?;
-    if !each_below(&figures) {
+    if !are_all_below(&figures) {
         return Err(Refusal::OutOfRange);
     }
     Ok(figures)
@@ -27,23 +28,11 @@ fn read_lists(heap: Global, n: usize, bytes: &[u8]) -> Result<Vec<Vec<u32>>, Ref
 {
     let mut lists = Vec::new(heap);
     let mut rest = bytes;
-    for _i in 0..n {
-        rest = take_words(&mut lists, heap, rest)?;
+    for _ in 0..n {
+        let (part, after) = cut(rest)?;
+        lists.push(split_words(heap, part)?)?;
+        rest = after;
     }
-    if !rest.is_empty() {
-        return Err(Refusal::Malformed);
-    }
+    check_end(rest)?;
     Ok(lists)
-}
-
-// Whether each word of each list is below P.
-pub(crate) fn each_below(lists: &[Vec<u32>]) -> bool
-    ensures { result ≡ all_below (map vec_items lists.now) }
-{
-    for list in lists {
-        if !are_below(list) {
-            return false;
-        }
-    }
-    true
 }

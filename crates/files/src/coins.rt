@@ -5,6 +5,7 @@ ghost use Rattle.files.specs.Answers.{Answers};
 ghost use Rattle.files.specs.Files.{coin_in, coins_of, coin_file};
 ghost use Rattle.files.specs.Words.{words};
 
+use crate::words::check_whole;
 use sheets::Refusal;
 use std::alloc::{AllocError, Global};
 
@@ -12,25 +13,23 @@ pub fn read_coins(heap: Global, bytes: &[u8]) -> Result<Vec<u32>, Refusal>
     ensures answer { Answers vec_items (coin_file bytes.now) result }
     ensures in_field { IfOk result (λ v. T (below v.items)) }
 {
-    if bytes.len() % 4 != 0 {
-        return Err(Refusal::Malformed);
-    }
+    check_whole(bytes)?;
     Ok(split_coins(heap, bytes)?)
 }
 
-// The coins of some bytes.
+// The coins of some bytes. There is room for a coin of each word, since what is filtered does not tell its length.
 pub(crate) fn split_coins(heap: Global, bytes: &[u8]) -> Result<Vec<u32>, AllocError>
-    ensures { IfOk result (λ v. (v.items ≡ coins_of (words bytes.now)) × T (below v.items)) }
+    ensures coins { IfOk result (λ v. v.items ≡ coins_of (words bytes.now)) }
+    ensures in_field { IfOk result (λ v. T (below v.items)) }
 {
     let mut coins = Vec::with_capacity(heap, bytes.len() / 4)?;
-    let mut rest = bytes;
-    while let [a, b, c, d, after @ ..] = rest {
-        let word = u32::from_be_bytes([*a, *b, *c, *d]);
-        if let Some(coin) = coin_of(word) {
-            coins.push_reserved(coin);
-        }
-        rest = after;
-    }
+    let (words, _) = bytes.as_chunks::<4>();
+    coins.extend(
+        words
+            .iter()
+            .map(|word| u32::from_be_bytes(*word))
+            .filter_map(coin_of),
+    )?;
     Ok(coins)
 }
 

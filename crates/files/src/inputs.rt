@@ -7,12 +7,13 @@ ghost use Rattle.files.specs.Held.{held};
 ghost use Rattle.files.specs.Lists.{lists};
 ghost use Rattle.std.specs.Option.{option_map};
 
-use crate::circle::each_below;
-use crate::parts::{take_coins, take_words};
-use sheets::Refusal;
+use crate::coins::split_coins;
+use crate::parts::{check_end, cut};
+use crate::words::split_words;
+use sheets::{Refusal, are_all_below};
 use std::alloc::Global;
 
-// Member i's figures and coins are at place i - 1.
+// Member i's figures and coins are at place i - 1, in lists of their own, since a run takes the two apart.
 #[derive(Drop)]
 pub struct CircleInputs {
     pub figures: Vec<Vec<u32>>,
@@ -25,13 +26,13 @@ pub fn read_circle_inputs(heap: Global, n: usize, bytes: &[u8]) -> Result<Circle
     ensures in_field { IfOk result (λ v. T (all_below (lists v.figures)) × T (all_below (lists v.coins))) }
 {
     let inputs = gather(heap, n, bytes)?;
-    if !each_below(&inputs.figures) {
+    if !are_all_below(&inputs.figures) {
         return Err(Refusal::OutOfRange);
     }
     Ok(inputs)
 }
 
-// What n members bring, and nothing more.
+// What n members bring, and nothing more. A loop shared with `read_lists` would take a closure that pushes, and be no plainer.
 fn gather(heap: Global, n: usize, bytes: &[u8]) -> Result<CircleInputs, Refusal>
     ensures answer { Answers held (formed (option_map gathered (each member_one n bytes.now))) result }
     ensures coins { IfOk result (λ v. T (all_below (lists v.coins))) }
@@ -41,12 +42,13 @@ fn gather(heap: Global, n: usize, bytes: &[u8]) -> Result<CircleInputs, Refusal>
         coins: Vec::new(heap),
     };
     let mut rest = bytes;
-    for _i in 0..n {
-        let after = take_words(&mut inputs.figures, heap, rest)?;
-        rest = take_coins(&mut inputs.coins, heap, after)?;
+    for _ in 0..n {
+        let (figures, after) = cut(rest)?;
+        inputs.figures.push(split_words(heap, figures)?)?;
+        let (coins, after) = cut(after)?;
+        inputs.coins.push(split_coins(heap, coins)?)?;
+        rest = after;
     }
-    if !rest.is_empty() {
-        return Err(Refusal::Malformed);
-    }
+    check_end(rest)?;
     Ok(inputs)
 }

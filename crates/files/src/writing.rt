@@ -1,6 +1,8 @@
 // Writing words, lists with their counts, and the figures of a circle.
-ghost use Rattle.std.specs.Prelude.{◌≡◌, ◌+◌, ◌*◌, ◌≤◌, true, ◌++◌, map, length, vec_items, vec_len, vec_capacity};
+ghost use Rattle.std.specs.Prelude.{◌≡◌, ◌+◌, ◌*◌, ◌≤◌, true, false, T, ◌++◌, take, map, length, IfOk, IfErr, vec_items, vec_len, vec_capacity};
 ghost use Rattle.sheets.specs.Bytes.{word_bytes};
+ghost use Rattle.sheets.specs.declared.refusal.Refusal.TheVariants.{OutOfRange};
+ghost use Rattle.files.specs.Answers.{UnlessMemory};
 ghost use Rattle.files.specs.Writing.{bytes_of, list_bytes, circle_bytes, count_fits, counts_fit, Wrote};
 
 use sheets::Refusal;
@@ -9,10 +11,7 @@ use sheets::Refusal;
 pub fn write_words(words: &[u32], out: &mut Vec<u8>) -> Result<(), Refusal>
     ensures { Wrote true out.old.items (bytes_of words.now) out.new.items result }
 {
-    let Some(len) = words.len().checked_mul(4) else {
-        return Err(Refusal::NoMemory);
-    };
-    out.reserve(len)?;
+    out.reserve(words.len().checked_mul(4).ok_or(Refusal::NoMemory)?)?;
     put_words(words, out);
     Ok(())
 }
@@ -22,11 +21,21 @@ pub fn write_circle_figures(lists: &[Vec<u32>], out: &mut Vec<u8>) -> Result<(),
     ensures { Wrote (counts_fit (map vec_items lists.now)) out.old.items (circle_bytes (map vec_items lists.now)) out.new.items result }
 {
     let start = out.len();
+    let written = write_lists(lists, out);
+    if written.is_err() {
+        out.truncate(start);
+    }
+    written
+}
+
+// The lists after their counts, up to one that is refused.
+fn write_lists(lists: &[Vec<u32>], out: &mut Vec<u8>) -> Result<(), Refusal>
+    ensures all { IfOk result (λ _. T (counts_fit (map vec_items lists.now)) × (out.new.items ≡ out.old.items ++ circle_bytes (map vec_items lists.now))) }
+    ensures refused { IfErr result (λ e. UnlessMemory e ((e ≡ OutOfRange) × (counts_fit (map vec_items lists.now) ≡ false))) }
+    ensures kept { take (length out.old.items) out.new.items ≡ out.old.items }
+{
     for list in lists {
-        if let Err(refusal) = write_list(list, out) {
-            out.truncate(start);
-            return Err(refusal);
-        }
+        write_list(list, out)?;
     }
     Ok(())
 }
@@ -35,11 +44,9 @@ pub fn write_circle_figures(lists: &[Vec<u32>], out: &mut Vec<u8>) -> Result<(),
 pub fn write_list(list: &[u32], out: &mut Vec<u8>) -> Result<(), Refusal>
     ensures { Wrote (count_fits list.now) out.old.items (list_bytes list.now) out.new.items result }
 {
-    if list.len() > u32::MAX as usize {
-        return Err(Refusal::OutOfRange);
-    }
+    let count = u32::try_from(list.len()).map_err(|_| Refusal::OutOfRange)?;
     out.reserve(4 + list.len() * 4)?;
-    put_word(list.len() as u32, out);
+    put_word(count, out);
     put_words(list, out);
     Ok(())
 }
@@ -58,11 +65,10 @@ fn put_words(words: &[u32], out: &mut Vec<u8>)
 fn put_word(word: u32, out: &mut Vec<u8>)
     requires { vec_len out.old + 4 ≤ vec_capacity out.old }
     ensures items { out.new.items ≡ out.old.items ++ word_bytes word }
-    ensures room { (vec_len out.new ≡ vec_len out.old + 4) × (vec_capacity out.new ≡ vec_capacity out.old) }
+    ensures len { vec_len out.new ≡ vec_len out.old + 4 }
+    ensures room { vec_capacity out.new ≡ vec_capacity out.old }
 {
-    let [a, b, c, d] = word.to_be_bytes();
-    out.push_reserved(a);
-    out.push_reserved(b);
-    out.push_reserved(c);
-    out.push_reserved(d);
+    for byte in word.to_be_bytes() {
+        out.push_reserved(byte);
+    }
 }

@@ -76,7 +76,7 @@ module _ (flags : List Bool) (n at : ℕ) (some : 0 < at) (le : at ≤ n) where
       let same : filter c (from i n) ≡ ws = ap (filter c) (from_more i n lt) ∙ left (c (i + 1)) (i + 1) ws (watches_at flags i ∙ e) in
       record { small = h.small; holds = subst (λ (vs : List ℕ). Holds xs (mask vs)) (sym same) h.holds }
 
-  pub masked_more : (xs ys : List ℕ) (k : ℕ) → get_or flags i false ≡ true → k ≡ neg (inv (i + 1)) → ((j : ℕ) → j < 8 → get_or ys j 0 ≡ get_or xs j 0 ⊕ k ⊗ coefficient xs j) → Masked c n at xs → Masked c n i ys
+  pub masked_more : (xs ys : List ℕ) (k : ℕ) → get_or flags i false ≡ true → k ≡ neg (inv at) → ((j : ℕ) → j < 8 → get_or ys j 0 ≡ get_or xs j 0 ⊕ k ⊗ coefficient xs j) → Masked c n at xs → Masked c n i ys
   unfolding mask
   masked_more xs ys k e is each h₀ =
       let h : Masked c n (i + 1) xs = subst (λ (k : ℕ). Masked c n k xs) here h₀ in
@@ -86,7 +86,7 @@ module _ (flags : List Bool) (n at : ℕ) (some : 0 < at) (le : at ≤ n) where
       each j lj ∙ (ap₂ F (h.holds j lj) (before_same xs (mask ws) h.holds j lj) ∙ sym (coefficient_times k 0 (mask ws) j)) in
       record {
         small = λ j lj. subst (λ (x : ℕ). x < p) (sym (each j lj)) (⊕-below (get_or xs j 0) (k ⊗ coefficient xs j));
-        holds = subst (λ (vs : List ℕ). Holds ys (mask vs)) (sym same) (subst (λ (x : ℕ). Holds ys (linear_product x 0 (mask ws))) is product);
+        holds = subst (λ (vs : List ℕ). Holds ys (mask vs)) (sym same) (subst (λ (x : ℕ). Holds ys (linear_product x 0 (mask ws))) (is ∙ ap (λ (w : ℕ). neg (inv w)) here) product);
       }
 
 pub masked_all : (c : ℕ → Bool) (n i : ℕ) (xs : List ℕ) → i ≡ 0 → Masked c n i xs → Holds xs (mask (filter c (members n)))

@@ -4,9 +4,8 @@
 ghost use Rattle.std.specs.Prelude.{◌≡◌, ℕ, ◌+◌, ◌<◌, ◌≤◌, T, length, filter, slice_index, slice_index_or};
 ghost use Rattle.field.specs.Field.{p, ◌⊕◌, ◌⊗◌, below};
 ghost use Rattle.masks.specs.Coefficients.{coefficient, Holds};
-ghost use Rattle.runs.specs.Pairing.{linear_product, mask as mask_of, shifted};
+ghost use Rattle.runs.specs.Pairing.{mask as mask_of};
 ghost use Rattle.shares.specs.Circle.{members};
-ghost use Rattle.shares.specs.Polynomial.{scaled};
 ghost use Rattle.runs.specs.Watching.{watches};
 
 // The first eight coefficients of the product of 1 - x / w over the watched w among 1 to n. At most seven members are
@@ -16,9 +15,9 @@ pub fn mask(n: usize, watched: &[bool; 15]) -> [u32; 8]
     ensures { Holds result (mask_of (filter (watches watched.now) (members n))) }
 {
     let mut coefficients = [1, 0, 0, 0, 0, 0, 0, 0];
-    for i in (0..n).rev() {
-        if watched[i] {
-            coefficients = times_linear(&coefficients, field::negative(field::inverse(i + 1)));
+    for member in (1..=n).rev() {
+        if watched[member - 1] {
+            coefficients = times_linear(&coefficients, field::negative(field::inverse(member)));
         }
     }
     coefficients
@@ -30,6 +29,7 @@ fn times_linear(coefficients: &[u32; 8], k: u32) -> [u32; 8]
     ensures { (i : ℕ) → i < 8 → slice_index result i ≡ slice_index_or coefficients.now i 0 ⊕ k ⊗ coefficient coefficients.now i }
 {
     let mut product = *coefficients;
+    // By number, since each place takes from the one before it: windows would need the number of the place beside them.
     for i in 1..8 {
         product[i] = field::sum(coefficients[i], field::product(k, coefficients[i - 1]));
     }
@@ -43,8 +43,8 @@ pub fn shift(d: u32, mask: &[u32; 8], coins: &[u32]) -> [u32; 7]
     ensures small { T (below result) }
 {
     let mut draw = [0; 7];
-    for i in 0..coins.len() {
-        draw[i] = field::sum(coins[i], field::product(d, mask[i + 1]));
+    for (i, coin) in coins.iter().enumerate() {
+        draw[i] = field::sum(*coin, field::product(d, mask[i + 1]));
     }
     draw
 }

@@ -3,8 +3,8 @@
 
 use console::Failure;
 use pairing::Pairing;
-use sheets::{Refusal, Sheet};
-use std::io::{BufWriter, Write};
+use sheets::Sheet;
+use std::io::Write;
 use std::process::ExitCode;
 
 const USAGE: &str = "usage: pair SHEET FIRST SECOND [WATCHED ..]";
@@ -15,9 +15,7 @@ fn play(rt: &HostRuntime, words: &[String]) -> Result<(), Failure> {
     let [sheet, first, second, watched @ ..] = words else {
         return Err(Failure::Usage(USAGE));
     };
-    let Some(watched) = console::member_words(heap, watched)? else {
-        return Err(Failure::Usage(USAGE));
-    };
+    let watched = console::member_words(heap, watched)?.ok_or(Failure::Usage(USAGE))?;
     let sheet = Sheet::read(heap, &console::file(rt, sheet.as_str())?)?;
     let first = files::read_circle_inputs(
         heap,
@@ -49,34 +47,14 @@ fn print(rt: &HostRuntime, sheet: &Sheet, answer: &Pairing) -> Result<(), Failur
 
 // Member by member, as many coins as each draws, one number to a line.
 fn print_coins(rt: &HostRuntime, sheet: &Sheet, lists: &[Vec<u32>]) -> Result<(), Failure> {
-    let out = BufWriter::new(rt.alloc(), rt.stdout());
-    let mut out = out.map_err(|_| Failure::Refused(Refusal::NoMemory))?;
-    let mut member = 0u32;
-    for list in lists {
-        member = member.saturating_add(1);
-        for coin in list.iter().take(sheet.coins_needed(member)) {
-            writeln!(out, "{coin}")?;
-        }
+    let mut out = console::output(rt)?;
+    for (member, list) in (1u32..).zip(lists) {
+        let drawn = sheet.coins_needed(member).min(list.len());
+        console::write_lines(&mut out, &list[..drawn])?;
     }
     Ok(out.flush()?)
 }
 
-fn run(rt: &HostRuntime) -> Result<(), Failure> {
-    let words = console::arguments(rt, USAGE)?;
-    if let [word] = words.as_slice()
-        && word.as_str() == "--help"
-    {
-        return Ok(rt.println(USAGE)?);
-    }
-    play(rt, &words)
-}
-
 fn main(rt: HostRuntime) -> ExitCode {
-    match run(&rt) {
-        Ok(()) => ExitCode::SUCCESS,
-        Err(failure) => {
-            let _ = rt.eprintln(&failure);
-            ExitCode::FAILURE
-        }
-    }
+    console::run_program(&rt, USAGE, play)
 }

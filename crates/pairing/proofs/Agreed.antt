@@ -14,7 +14,8 @@ use Rattle.runs.specs.Run.{coins_after}
 use Rattle.runs.specs.Short.{short_at, or_else, runs_out}
 use Rattle.runs.proofs.Dealers.{enough-after, enough_now}
 use Rattle.runs.proofs.Enough.{has-from, short-from, else_parts}
-use Rattle.pairing.specs.Differing.{differ, Place, given_differs, taken_after, or_later, figure_differs}
+use Rattle.pairing.specs.declared.differing.Place.{Place}
+use Rattle.pairing.specs.Differing.{differ, given_differs, taken_after, or_later, figure_differs}
 use Rattle.pairing.specs.Lacking.{short_in_either, runs_out_in_either}
 
 -- nothing is missing in either run

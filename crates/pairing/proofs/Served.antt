@@ -1,5 +1,5 @@
 -- The answers: each case with what stands before it.
-use Rattle.std.proofs.Common.{◌≡◌, ℕ, ◌<◌, ◌≤◌, Bool, true, false, cond, ◌&&◌, ◌||◌, T, List, Some, None, Ok, Err, Option, Result, Vec, sym, refl, ap, ◌∙◌, subst, ap₂, inl, arith}
+use Rattle.std.proofs.Common.{◌≡◌, ℕ, ◌<◌, ◌≤◌, Bool, true, false, cond, ◌&&◌, ◌||◌, T, ◌⊎◌, List, Some, None, Ok, Err, Option, Result, Vec, sym, refl, ap, ◌∙◌, subst, ap₂, inl, inr, arith}
 use mathlib.Core.Path.{fun_ext}
 use Rattle.std.specs.declared.alloc.Global.{Global}
 use Rattle.std.proofs.lemmas.Bool.{and_parts, lt-ltb, le-ltb, cond-true, cond-false}
@@ -8,11 +8,9 @@ use Rattle.shares.specs.Circle.{Circle, Fits}
 use Rattle.sheets.specs.Families.{of}
 use Rattle.sheets.specs.Lines.{good}
 use Rattle.sheets.specs.Meaning.{result}
-use Rattle.std.specs.List.{list_any}
 use Rattle.sheets.specs.declared.line.Line.{Line}
 use Rattle.sheets.specs.declared.refusal.Refusal.{Refusal}
-use Rattle.sheets.specs.declared.refusal.Refusal.TheVariants.{OutOfRange}
-use Rattle.console.specs.Numbers.{outside}
+use Rattle.sheets.specs.declared.refusal.Refusal.TheVariants.{NoMemory, OutOfRange}
 use Rattle.coupling.specs.Couples.{Given}
 use Rattle.coupling.specs.Growing.{lists}
 use Rattle.runs.specs.Laws.{Coins}
@@ -20,13 +18,16 @@ use Rattle.runs.specs.Pairing.{there}
 use Rattle.runs.specs.Seen.{how_many, sees}
 use Rattle.runs.proofs.Alike.{alike}
 use Rattle.runs.proofs.Enough.{enough}
-use Rattle.runs.proofs.Checked.{reduced-from}
+use Rattle.sheets.proofs.Checked.{reduced-from}
 use Rattle.pairing.specs.Answers.{Serve, PairedAs, ConcludedAs}
 use Rattle.pairing.specs.declared.answer.Pairing.{Pairing}
 use Rattle.pairing.specs.declared.answer.Pairing.TheVariants.{Coins as PairedCoins, OpenedDiffers, FigureDiffers, NoPairing}
-use Rattle.pairing.specs.Differing.{differ, Place, figure_differs}
+use Rattle.pairing.specs.declared.differing.Place.{Place}
+use Rattle.pairing.specs.Differing.{differ, figure_differs}
 use Rattle.pairing.specs.Lacking.{runs_out_in_either}
-use Rattle.pairing.specs.Verdict.{among, unpairable, refusal, Verdict, Unpaired, Refused, Opened, Figure, Paired, first_of, verdict}
+use Rattle.pairing.specs.Verdict.{among, unpairable, refusal, Verdict, Unpaired, Refused, Opened, first_of, verdict}
+use Rattle.runs.specs.Watching.{watches}
+use Rattle.pairing.proofs.Sets.{Counted}
 use Rattle.pairing.proofs.Agreed.{either_none, differ_nowhere, results_level, agree}
 
 in_range : (b : Bool) (o : Option Refusal) → cond b o (Some OutOfRange) ≡ None → (b ≡ true) × (o ≡ None)
@@ -49,43 +50,42 @@ module _ (z : Circle) (ls : List Line) (watched : List ℕ) (C F F' : List (List
   abbrev rest : Verdict
   rest = first_of (refusal z ls C F F') differs found
 
-  pub crowded : (count : ℕ) → list_any (outside z.n) watched ≡ false → count ≡ how_many c z.n → z.t < count → the ≡ Unpaired
-  crowded count in_circle is many =
-      let test : unpairable z watched ≡ true =
-      ap₂ (λ (a b : Bool). a || b) in_circle (lt-ltb z.t (how_many c z.n) (subst (λ (k : ℕ). z.t < k) is many)) in
-      cond-true (unpairable z watched) Unpaired rest test
+  module _ (set : List Bool) (count t : ℕ) (h : Counted z.n watched set count) (is : t ≡ z.t) where
+    pub crowded : t < count → the ≡ Unpaired
+    crowded many =
+        let test : unpairable z watched ≡ true = ap₂ (λ (a b : Bool). a || b) h.in_circle (lt-ltb z.t (how_many c z.n) (omega (arith, h.counts))) in
+        cond-true (unpairable z watched) Unpaired rest test
 
-  -- the watched are few, and members
-  module _ (in_circle : list_any (outside z.n) watched ≡ false) (few : how_many c z.n ≤ z.t) where
-    pairable : the ≡ rest
-    pairable =
-        let test : unpairable z watched ≡ false = ap₂ (λ (a b : Bool). a || b) in_circle (le-ltb z.t (how_many c z.n) few) in
-        cond-false (unpairable z watched) Unpaired rest test
+    -- the watched are few, and members
+    module _ (le : count ≤ t) where
+      pub few : how_many c z.n ≤ z.t
+      few = omega (arith, h.counts)
 
-    pub refused : (e : Refusal) → refusal z ls C F F' ≡ Some e → the ≡ Refused e
-    refused e h = pairable ∙ ap (λ (o : Option Refusal). first_of o differs found) h
+      pairable : the ≡ rest
+      pairable =
+          let test : unpairable z watched ≡ false = ap₂ (λ (a b : Bool). a || b) h.in_circle (le-ltb z.t (how_many c z.n) few) in
+          cond-false (unpairable z watched) Unpaired rest test
 
-    module _ (none : refusal z ls C F F' ≡ None) where
-      pub opened-at : (k : ℕ) (xs ys : List ℕ) → xs ≡ result ls (of F) → ys ≡ result ls (of F') → Some k ≡ differ 0 xs ys → the ≡ Opened k
-      opened-at k xs ys ex ey h =
-          pairable ∙ ap₂ (λ (o : Option Refusal) (d : Option ℕ). first_of o d found) none (sym (h ∙ ap₂ (differ 0) ex ey))
+      pub refused : (e : Refusal) → (e ≡ NoMemory) ⊎ (refusal z ls C F F' ≡ Some e) → (e ≡ NoMemory) ⊎ (the ≡ Refused e)
+      refused e (inl memory) = inl memory
+      refused e (inr told) = inr (pairable ∙ ap (λ (o : Option Refusal). first_of o differs found) told)
 
-      module _ (xs ys : List ℕ) (ex : xs ≡ result ls (of F)) (ey : ys ≡ result ls (of F')) (same : None ≡ differ 0 xs ys) where
-        no_difference : differs ≡ None
-        no_difference = sym (same ∙ ap₂ (differ 0) ex ey)
+      module _ (none : refusal z ls C F F' ≡ None) where
+        pub opened-at : (k : ℕ) (xs ys : List ℕ) → xs ≡ result ls (of F) → ys ≡ result ls (of F') → Some k ≡ differ 0 xs ys → the ≡ Opened k
+        opened-at k xs ys ex ey at =
+            pairable ∙ ap₂ (λ (o : Option Refusal) (d : Option ℕ). first_of o d found) none (sym (at ∙ ap₂ (differ 0) ex ey))
 
-        pub figure-at : (place : Place) → found ≡ Some place → the ≡ Figure place
-        figure-at place h =
-            pairable
-            ∙ (ap₂ (λ (o : Option Refusal) (d : Option ℕ). first_of o d found) none no_difference ∙ ap (first_of None None) h)
+        module _ (xs ys : List ℕ) (ex : xs ≡ result ls (of F)) (ey : ys ≡ result ls (of F')) (same : None ≡ differ 0 xs ys) where
+          no_difference : differs ≡ None
+          no_difference = sym (same ∙ ap₂ (differ 0) ex ey)
 
-        pub paired_at : found ≡ None → the ≡ Paired
-        paired_at h =
-            pairable
-            ∙ (ap₂ (λ (o : Option Refusal) (d : Option ℕ). first_of o d found) none no_difference ∙ ap (first_of None None) h)
+          pub then_at : (place : Option Place) → found ≡ place → the ≡ first_of None None place
+          then_at place at =
+              pairable
+              ∙ (ap₂ (λ (o : Option Refusal) (d : Option ℕ). first_of o d found) none no_difference ∙ ap (first_of None None) at)
 
-        pub results_same : result ls (of F) ≡ result ls (of F')
-        results_same = differ_nowhere 0 (result ls (of F)) (result ls (of F')) (results_level ls (of F) (of F')) no_difference
+          pub results_same : result ls (of F) ≡ result ls (of F')
+          results_same = differ_nowhere 0 (result ls (of F)) (result ls (of F')) (results_level ls (of F) (of F')) no_difference
 
 -- nothing is refused: all suffices
 pub given : (z : Circle) (ls : List Line) (C F F' : List (List ℕ)) → T (good z.n 0 ls) → refusal z ls C F F' ≡ None → Given z ls (of C) (of F) (of F')
@@ -117,17 +117,20 @@ serve z fits ls c C F F' paired few g same none is =
     }
 
 -- the conclusion, with what was found before it
-pub concluded : (z : Circle) → Fits z → (ls : List Line) (watched : List ℕ) (C F F' : List (List ℕ)) (coins : Vec (Vec ℕ Global) Global) (r : Result Pairing Refusal) → T (good z.n 0 ls) →
-    list_any (outside z.n) watched ≡ false → how_many (among watched) z.n ≤ z.t → refusal z ls C F F' ≡ None →
-    (xs ys : List ℕ) → xs ≡ result ls (of F) → ys ≡ result ls (of F') → None ≡ differ 0 xs ys → of (lists coins) ≡ there z (among watched) ls (of F) (of F') (of C) →
-    ConcludedAs (figure_differs (among watched) ls (λ i. 0) (of F) (of F')) coins r → PairedAs z ls watched C F F' r
-concluded z fits ls watched C F F' coins (Ok (PairedCoins paired)) well in_circle few none xs ys ex ey same is h =
-    let results = results_same z ls watched C F F' in_circle few none xs ys ex ey same in (
-      paired_at z ls watched C F F' in_circle few none xs ys ex ey same h.0,
-      serve z fits ls (among watched) (of C) (of F) (of F') (of (lists paired)) few (given z ls C F F' well none) results h.0 (ap (λ (v : Vec (Vec ℕ Global) Global). of (lists v)) h.1 ∙ is),
-    )
-concluded z fits ls watched C F F' coins (Ok (OpenedDiffers k)) well in_circle few none xs ys ex ey same is h = absurd h
-concluded z fits ls watched C F F' coins (Ok (FigureDiffers w k)) well in_circle few none xs ys ex ey same is h =
-    figure-at z ls watched C F F' in_circle few none xs ys ex ey same (record { member = w; place = k }) h
-concluded z fits ls watched C F F' coins (Ok NoPairing) well in_circle few none xs ys ex ey same is h = absurd h
-concluded z fits ls watched C F F' coins (Err e) well in_circle few none xs ys ex ey same is h = inl h
+module _ (z : Circle) (fits : Fits z) (ls : List Line) (watched : List ℕ) (C F F' : List (List ℕ)) (set : List Bool) (count t : ℕ) (h : Counted z.n watched set count) (is : t ≡ z.t) (le : count ≤ t) (well : T (good z.n 0 ls)) (none : refusal z ls C F F' ≡ None) (xs ys : List ℕ) (ex : xs ≡ result ls (of F)) (ey : ys ≡ result ls (of F')) (same : None ≡ differ 0 xs ys) (coins : Vec (Vec ℕ Global) Global) (paired : of (lists coins) ≡ there z (watches set) ls (of F) (of F') (of C)) where
+  at_end : (place : Option Place) → figure_differs (watches set) ls (λ i. 0) (of F) (of F') ≡ place → verdict z ls watched C F F' ≡ first_of None None place
+  at_end place at = then_at z ls watched C F F' set count t h is le none xs ys ex ey same place (ap (λ (w : ℕ → Bool). figure_differs w ls (λ i. 0) (of F) (of F')) (sym h.is) ∙ at)
+
+  pub concluded : (r : Result Pairing Refusal) → ConcludedAs (figure_differs (watches set) ls (λ i. 0) (of F) (of F')) coins r → PairedAs z ls watched C F F' r
+  concluded (Ok (PairedCoins lent)) at =
+      let c : ℕ → Bool = among watched in
+      let results = results_same z ls watched C F F' set count t h is le none xs ys ex ey same in
+      let nowhere : figure_differs c ls (λ i. 0) (of F) (of F') ≡ None = ap (λ (w : ℕ → Bool). figure_differs w ls (λ i. 0) (of F) (of F')) (sym h.is) ∙ at.0 in (
+        at_end None at.0,
+        serve z fits ls c (of C) (of F) (of F') (of (lists lent)) (few z ls watched C F F' set count t h is le) (given z ls C F F' well none) results nowhere
+            (ap (λ (v : Vec (Vec ℕ Global) Global). of (lists v)) at.1 ∙ (paired ∙ ap (λ (w : ℕ → Bool). there z w ls (of F) (of F') (of C)) h.is)),
+      )
+  concluded (Ok (OpenedDiffers k)) at = absurd at
+  concluded (Ok (FigureDiffers w k)) at = at_end (Some (record { member = w; place = k })) at
+  concluded (Ok NoPairing) at = absurd at
+  concluded (Err e) at = inl at

@@ -1,33 +1,23 @@
 -- The watched as flags and as numbers: the same set.
-use Rattle.std.proofs.Common.{◌≡◌, ℕ, zero, suc, ◌+◌, ◌<◌, ◌≤◌, min, Bool, true, false, cond, ◌||◌, eqb, ltb, List, [], ◌∷◌, length, get_or, Some, sym, refl, ap, ◌∙◌, subst, ap₂, ⊎_elim, add-one, arith}
+use Rattle.std.proofs.Common.{◌≡◌, ℕ, zero, suc, ◌+◌, ◌<◌, ◌≤◌, min, Bool, false, cond, ◌||◌, eqb, ltb, List, [], ◌∷◌, length, get_or, take, Some, sym, refl, ap, ◌∙◌, subst, ap₂, ⊎_elim, add-one, arith}
 use mathlib.Core.Path.{fun_ext}
 use Rattle.std.proofs.lemmas.List.{get_or_past}
 use Rattle.std.proofs.lemmas.Bool.{or_parts, eqb-false, ltb-false, ne_eqb, cases_lt}
-use Rattle.std.specs.List.{list_any}
+use Rattle.std.proofs.lemmas.List.Sums.{sum_by_more}
+use Rattle.std.specs.List.{list_any, count_by}
 use Rattle.console.specs.Numbers.{outside, SetOf}
 use Rattle.runs.specs.Seen.{how_many}
 use Rattle.runs.specs.Watching.{watches}
-use Rattle.runs.proofs.Left.{watches_at}
 use Rattle.pairing.specs.Verdict.{among}
 
--- how many are watched, one more looked at
-how_many_lem : (c : ℕ → Bool) (i : ℕ) → how_many c (i + 1) ≡ cond (c (i + 1)) 1 0 + how_many c i
+-- how many are watched: so many flags are up
+pub how_many_by : (flags : List Bool) (n : ℕ) → n ≤ length flags → count_by (λ (b : Bool). b) (take n flags) ≡ how_many (watches flags) n
 unfolding how_many
-how_many_lem c i = let e : i + 1 ≡ suc i = add-one i in ap (how_many c) e ∙ ap (λ (k : ℕ). cond (c k) 1 0 + how_many c i) (sym e)
-
-pub none_yet : (c : ℕ → Bool) → 0 ≡ how_many c 0
-unfolding how_many
-none_yet c = refl
-
-pub one_more : (flags : List Bool) (i n m : ℕ) → get_or flags i false ≡ true → m ≡ n + 1 → n ≡ how_many (watches flags) i → m ≡ how_many (watches flags) (i + 1)
-one_more flags i n m e is h =
-    let one : ◌≡◌ {A = ℕ} (cond (watches flags (i + 1)) 1 0) 1 = ap (λ (b : Bool). cond b 1 0) (watches_at flags i ∙ e) in
-    omega (arith, how_many_lem (watches flags) i, one)
-
-pub no_more : (flags : List Bool) (i n m : ℕ) → get_or flags i false ≡ false → m ≡ n → n ≡ how_many (watches flags) i → m ≡ how_many (watches flags) (i + 1)
-no_more flags i n m e is h =
-    let none : ◌≡◌ {A = ℕ} (cond (watches flags (i + 1)) 1 0) 0 = ap (λ (b : Bool). cond b 1 0) (watches_at flags i ∙ e) in
-    omega (arith, how_many_lem (watches flags) i, none)
+how_many_by flags zero le = refl
+how_many_by flags (suc n) le =
+    let step = sum_by_more (λ (b : Bool). cond b 1 0) flags n false (omega arith) in
+    let rest = how_many_by flags n (omega arith) in
+    ap (λ (k : ℕ). count_by (λ (b : Bool). b) (take k flags)) (sym (add-one n)) ∙ omega (arith, step, rest)
 
 -- a number that is nobody's is not among members
 not_among : (n i : ℕ) (watched : List ℕ) → list_any (outside n) watched ≡ false → ((x : ℕ) → outside n x ≡ false → x ≡ i → ⊥) → list_any (λ number. eqb number i) watched ≡ false
@@ -60,7 +50,7 @@ pub record Counted (n : ℕ) (watched : List ℕ) (set : List Bool) (count : ℕ
   pub is : watches set ≡ among watched
   pub counts : count ≡ how_many (among watched) n
 
-pub counted : (n n₁ : ℕ) (watched : List ℕ) (set : List Bool) (count : ℕ) → n₁ ≡ n → SetOf n₁ watched (Some set) → count ≡ how_many (watches set) n₁ → Counted n watched set count
+pub counted : (n n₁ : ℕ) (watched : List ℕ) (set : List Bool) (count : ℕ) → n₁ ≡ n → SetOf n₁ watched (Some set) → count ≡ how_many (watches set) n → Counted n watched set count
 counted n n₁ watched set count e h counts =
     let same : watches set ≡ among watched = same_set n₁ watched set h.0 h.1 h.2 in
-    subst (λ (k : ℕ). Counted k watched set count) e (record { in_circle = h.0; is = same; counts = counts ∙ ap (λ (c : ℕ → Bool). how_many c n₁) same })
+    record { in_circle = subst (λ (k : ℕ). list_any (outside k) watched ≡ false) e h.0; is = same; counts = counts ∙ ap (λ (c : ℕ → Bool). how_many c n) same }

@@ -10,7 +10,7 @@ use Rattle.coupling.specs.Growing.{lists}
 use Rattle.runs.specs.Laws.{Figures, Coins}
 use Rattle.runs.specs.Pairing.{there}
 use Rattle.runs.specs.Seen.{sees}
-use Rattle.pairing.specs.Differing.{Place}
+use Rattle.pairing.specs.declared.differing.Place.{Place}
 use Rattle.pairing.specs.Verdict.{among, verdict, Unpaired, Refused, Opened, Figure, Paired}
 use Rattle.pairing.specs.declared.answer.Pairing.{Pairing}
 use Rattle.pairing.specs.declared.answer.Pairing.TheVariants.{Coins as PairedCoins, OpenedDiffers, FigureDiffers, NoPairing}

@@ -1,7 +1,8 @@
 -- What differs between two runs.
-use Rattle.std.specs.Prelude.{◌≡◌, ℕ, ◌+◌, Bool, cond, not, ◌&&◌, List, [], ◌∷◌, Some, None, Option, ◌==◌, slice_index}
+use Rattle.std.specs.Prelude.{ℕ, ◌+◌, Bool, cond, not, ◌&&◌, List, [], ◌∷◌, Some, None, Option, ◌==◌, slice_index}
 use Rattle.sheets.specs.Lines.{gives}
 use Rattle.sheets.specs.Meaning.{figures_after}
+use Rattle.pairing.specs.declared.differing.Place.{Place}
 use Rattle.sheets.specs.declared.line.Line.{Line}
 use Rattle.sheets.specs.declared.line.Line.TheVariants.{Input, Sum, Times, Product, Open}
 
@@ -10,11 +11,6 @@ unfoldable pub differ : ℕ → List ℕ → List ℕ → Option ℕ
 differ k [] ys = None
 differ k (x ∷ xs) [] = None
 differ k (x ∷ xs) (y ∷ ys) = cond (x == y) (differ (k + 1) xs ys) (Some k)
-
--- a member, and a place among its own figures
-pub record Place : Type 0 where
-  pub member : ℕ
-  pub place : ℕ
 
 -- the figure that a watched member gives for a line differs; `taken i` figures of member i were taken before
 abbrev pub given_differs : (ℕ → Bool) → Line → (ℕ → ℕ) → (ℕ → List ℕ) → (ℕ → List ℕ) → Option Place
@@ -37,7 +33,3 @@ unfoldable pub figure_differs : (ℕ → Bool) → List Line → (ℕ → ℕ) �
 figure_differs c [] taken figures figures' = None
 figure_differs c (l ∷ ls) taken figures figures' =
     or_later (given_differs c l taken figures figures') (figure_differs c ls (taken_after l taken) (figures_after l figures) (figures_after l figures'))
-
-abbrev pub FoundAs : Option Place → Option (ℕ × ℕ) → Type 0
-FoundAs place None = place ≡ None
-FoundAs place (Some x) = place ≡ Some (record { member = x.0; place = x.1 })

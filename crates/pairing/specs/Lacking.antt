@@ -1,12 +1,15 @@
 -- Figures and coins that run out in either of two runs with as many coins.
-use Rattle.std.specs.Prelude.{◌≡◌, ℕ, true, false, cond, ◌&&◌, List, [], ◌∷◌, Some, None, Ok, Err, Option, Result}
+use Rattle.std.specs.Prelude.{◌≡◌, ℕ, true, false, cond, ◌&&◌, List, [], ◌∷◌, Some, None, Ok, Err, Option, Result, vec_items}
+use Rattle.std.specs.Borrow.{Bor}
 use Rattle.shares.specs.Circle.{Circle, members}
+use Rattle.pairing.specs.declared.lacking.Left.{Left}
+use Rattle.sheets.specs.Families.{family, of}
 use Rattle.sheets.specs.Meaning.{figures_after, has_figure}
 use Rattle.std.specs.List.{list_any}
 use Rattle.sheets.specs.declared.line.Line.{Line}
 use Rattle.sheets.specs.declared.line.Line.TheVariants.{Product}
 use Rattle.sheets.specs.declared.refusal.Refusal.{Refusal}
-use Rattle.sheets.specs.declared.refusal.Refusal.TheVariants.{NoFigure, NoCoins}
+use Rattle.sheets.specs.declared.refusal.Refusal.TheVariants.{NoMemory, NoFigure, NoCoins}
 use Rattle.runs.specs.Run.{coins_after}
 use Rattle.runs.specs.Short.{short_at, or_else}
 use Rattle.runs.specs.Steps.{lacks}
@@ -21,16 +24,35 @@ runs_out_in_either z [] figures figures' coins = None
 runs_out_in_either z (l ∷ ls) figures figures' coins =
     or_else (short_in_either z l figures figures' coins) (runs_out_in_either z ls (figures_after l figures) (figures_after l figures') (coins_after z l coins))
 
--- what a line takes of all lists
-pub record Taken (z : Circle) (l : Line) (figures figures₁ figures' figures'₁ coins coins₁ : ℕ → List ℕ) : Type 0 where
-  pub enough : short_in_either z l figures figures' coins ≡ None
-  pub taken : figures₁ ≡ figures_after l figures
-  pub taken' : figures'₁ ≡ figures_after l figures'
-  pub drawn : coins₁ ≡ coins_after z l coins
+-- each member's lists, as far as lines have not taken from them
+abbrev pub figures_in : Left → ℕ → List ℕ
+figures_in s = of (family (vec_items s.figures))
 
-abbrev pub TakenAs : Circle → Line → (ℕ → List ℕ) → (ℕ → List ℕ) → (ℕ → List ℕ) → (ℕ → List ℕ) → (ℕ → List ℕ) → (ℕ → List ℕ) → Result (Unit {0}) Refusal → Type 0
-TakenAs z l figures figures₁ figures' figures'₁ coins coins₁ (Ok u) = Taken z l figures figures₁ figures' figures'₁ coins coins₁
-TakenAs z l figures figures₁ figures' figures'₁ coins coins₁ (Err e) = short_in_either z l figures figures' coins ≡ Some e
+abbrev pub other_figures_in : Left → ℕ → List ℕ
+other_figures_in s = of (family (vec_items s.other_figures))
+
+abbrev pub coins_in : Left → ℕ → List ℕ
+coins_in s = of (family (vec_items s.coins))
+
+abbrev pub LentAs : List (Bor (List ℕ)) → List (Bor (List ℕ)) → List (Bor (List ℕ)) → Result Left Refusal → Type 0
+LentAs figures figures' coins (Ok s) = (vec_items s.figures ≡ figures) × (vec_items s.other_figures ≡ figures') × (vec_items s.coins ≡ coins)
+LentAs figures figures' coins (Err e) = e ≡ NoMemory
+
+-- what a line takes
+pub record Taken (z : Circle) (l : Line) (before after : Left) : Type 0 where
+  pub enough : short_in_either z l (figures_in before) (other_figures_in before) (coins_in before) ≡ None
+  pub taken : figures_in after ≡ figures_after l (figures_in before)
+  pub taken' : other_figures_in after ≡ figures_after l (other_figures_in before)
+  pub drawn : coins_in after ≡ coins_after z l (coins_in before)
+
+abbrev pub TakenAs : Circle → Line → Left → Left → Result (Unit {0}) Refusal → Type 0
+TakenAs z l before after (Ok u) = Taken z l before after
+TakenAs z l before after (Err e) = short_in_either z l (figures_in before) (other_figures_in before) (coins_in before) ≡ Some e
+
+-- what is missing, if anything, is told
+abbrev pub NeitherAs : Option Refusal → Result (Unit {0}) Refusal → Type 0
+NeitherAs missing (Ok u) = missing ≡ None
+NeitherAs missing (Err e) = missing ≡ Some e
 
 -- what a line takes for which all members deal
 abbrev pub DealersAs : Circle → (ℕ → List ℕ) → (ℕ → List ℕ) → Result (Unit {0}) Refusal → Type 0

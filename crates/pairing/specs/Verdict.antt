@@ -10,7 +10,8 @@ use Rattle.sheets.specs.declared.refusal.Refusal.{Refusal}
 use Rattle.sheets.specs.declared.refusal.Refusal.TheVariants.{NoMemory, OutOfRange}
 use Rattle.console.specs.Numbers.{outside}
 use Rattle.runs.specs.Seen.{how_many}
-use Rattle.pairing.specs.Differing.{differ, Place, figure_differs}
+use Rattle.pairing.specs.declared.differing.Place.{Place}
+use Rattle.pairing.specs.Differing.{differ, figure_differs}
 use Rattle.pairing.specs.Lacking.{runs_out_in_either}
 
 -- who is watched, given by numbers: a set

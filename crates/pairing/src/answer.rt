@@ -1,6 +1,6 @@
 // What is answered.
 
-#[derive(Drop)]
+#[derive(Debug, PartialEq, Eq, Drop)]
 pub enum Pairing {
     // the coins of the other run, one list for each member
     Coins(Vec<Vec<u32>>),

@@ -26,20 +26,14 @@ pub fn pair(
 ) -> Result<Pairing, Refusal>
     ensures { PairedAs (circle_of sheet.now) (lines_in sheet.now) watched.now (family coins.now) (family figures.now) (family other_figures.now) result }
 {
-    let n = sheet.members();
-    let Some(set) = member_set(n, watched) else {
+    let Some(set) = member_set(sheet.members(), watched) else {
         return Ok(Pairing::NoPairing);
     };
-    if count_watched(n, &set) > sheet.threshold() {
+    if count_watched(sheet, &set) > sheet.threshold() {
         return Ok(Pairing::NoPairing);
     }
-    if let Err(refusal) = suffice(heap, sheet, coins, figures, other_figures) {
-        return Err(refusal);
-    }
-    let both = match run_both(heap, sheet, &set, coins, figures, other_figures) {
-        Ok(both) => both,
-        Err(refusal) => return Err(refusal),
-    };
+    suffice(heap, sheet, coins, figures, other_figures)?;
+    let both = run_both(heap, sheet, &set, coins, figures, other_figures)?;
     if let Some(place) = first_difference(&both.opened, &both.other_opened) {
         return Ok(Pairing::OpenedDiffers(place));
     }

@@ -21,14 +21,10 @@ pub(crate) fn conclude(
 ) -> Result<Pairing, Refusal>
     ensures { ConcludedAs (figure_differs (watches watched.now) (lines_in sheet.now) (λ i. 0) (of (family figures.now)) (of (family other_figures.now))) coins result }
 {
-    let Ok(mut figures) = Vec::from_slice(heap, figures) else {
-        return Err(Refusal::NoMemory);
-    };
-    let Ok(mut other_figures) = Vec::from_slice(heap, other_figures) else {
-        return Err(Refusal::NoMemory);
-    };
-    match first_figure(sheet.lines(), watched, &mut figures, &mut other_figures) {
-        Some((member, place)) => Ok(Pairing::FigureDiffers(member, place)),
+    let mut figures = Vec::from_slice(heap, figures)?;
+    let mut other_figures = Vec::from_slice(heap, other_figures)?;
+    match first_figure(sheet, watched, &mut figures, &mut other_figures) {
+        Some(found) => Ok(Pairing::FigureDiffers(found.member, found.place)),
         None => Ok(Pairing::Coins(coins)),
     }
 }

@@ -1,17 +1,13 @@
 // How many are watched.
-ghost use Rattle.std.specs.Prelude.{◌≡◌, ◌≤◌};
+ghost use Rattle.std.specs.Prelude.{◌≡◌};
 ghost use Rattle.runs.specs.Seen.{how_many};
 ghost use Rattle.runs.specs.Watching.{watches};
 
-pub(crate) fn count_watched(n: usize, watched: &[bool; 15]) -> usize
-    requires { n ≤ 15 }
-    ensures { result ≡ how_many (watches watched.now) n }
+use sheets::Sheet;
+
+pub(crate) fn count_watched(sheet: &Sheet, watched: &[bool; 15]) -> usize
+    ensures { result ≡ how_many (watches watched.now) sheet.now.n }
 {
-    let mut count = 0;
-    for i in 0..n {
-        if watched[i] {
-            count += 1;
-        }
-    }
-    count
+    let members = &watched[..sheet.members()];
+    members.iter().filter(|is_watched| **is_watched).count()
 }

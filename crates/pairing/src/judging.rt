@@ -3,7 +3,7 @@ ghost use Rattle.pairing.specs.Verdict.{SufficeAs};
 ghost use Rattle.sheets.specs.Families.{family};
 ghost use Rattle.sheets.specs.Sheets.{circle_of, lines_in};
 
-use crate::lacking::missing;
+use crate::lacking::Left;
 use sheets::{Refusal, Sheet, are_all_below};
 use std::alloc::Global;
 
@@ -20,24 +20,5 @@ pub(crate) fn suffice(
     if !are_all_below(figures) || !are_all_below(other_figures) || !are_all_below(coins) {
         return Err(Refusal::OutOfRange);
     }
-    let Ok(mut coins) = Vec::from_slice(heap, coins) else {
-        return Err(Refusal::NoMemory);
-    };
-    let Ok(mut figures) = Vec::from_slice(heap, figures) else {
-        return Err(Refusal::NoMemory);
-    };
-    let Ok(mut other_figures) = Vec::from_slice(heap, other_figures) else {
-        return Err(Refusal::NoMemory);
-    };
-    match missing(
-        sheet.members(),
-        sheet.threshold(),
-        sheet.lines(),
-        &mut figures,
-        &mut other_figures,
-        &mut coins,
-    ) {
-        Some(refusal) => Err(refusal),
-        None => Ok(()),
-    }
+    Left::new(heap, figures, other_figures, coins)?.take_all(sheet)
 }

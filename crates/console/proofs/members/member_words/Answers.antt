@@ -14,7 +14,7 @@ loop-word-preserved c =
     c.loop-word.invariant
     ∙ (words_more string_bytes (vec_items c.loop-word.numbers) c.args.words.now c.loop-word.word-index c.word-item.result c.in-Some.number c.loop-word-test.true c.word-item.is
     (c.in-Some.ensures ∙ ap number_in c.as_bytes.ensures.value)
-    ∙ ap (λ (xs : List ℕ). numbers_after xs (map string_bytes (drop (c.loop-word.word-index + 1) c.args.words.now))) (sym c.in-Ok.ensures.items))
+    ∙ ap (λ (xs : List ℕ). numbers_after xs (map string_bytes (drop (c.loop-word.word-index + 1) c.args.words.now))) (sym c.in_ok-push.ensures.items))
 
 pub returns : goal.returns
 returns c = c.loop-word.invariant ∙ words_all string_bytes (vec_items c.loop-word.numbers) c.args.words.now c.loop-word.word-index c.loop-word-test.false

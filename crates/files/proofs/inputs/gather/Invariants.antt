@@ -7,7 +7,7 @@ use Rattle.files.proofs.EachSteps.{So}
 use Rattle.files.proofs.inputs.gather.Given as goal
 
 -- some members have been read, and with those that are left they are all
-abbrev pub invariant-loop-i : goal.invariant-loop-i
-invariant-loop-i l =
+abbrev pub invariant-loop : goal.invariant-loop
+invariant-loop l =
     T (all_below (lists l.inputs.coins))
-    × ((done : List Member) × (gathered done ≡ held l.inputs) × So member_one l.n l._i done l.rest l.bytes)
+    × ((done : List Member) × (gathered done ≡ held l.inputs) × So member_one l.n l.counter done l.rest l.bytes)

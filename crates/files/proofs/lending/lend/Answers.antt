@@ -1,14 +1,10 @@
 use Rattle.std.proofs.Common.{vec_items, rules}
-use Rattle.files.proofs.LendSteps.{lend_more, lend_all}
+use Rattle.std.proofs.lemmas.Iterator.{YieldsList-from_slice, YieldsList-from_map_by, items_from_drains}
 use Rattle.files.proofs.lending.lend.Goals as goal
 
-pub loop-i-preserved : goal.loop-i-preserved
-loop-i-preserved c = (
-  lend_more vec_items (vec_items c.args.lists.now) c.loop-i.i c.index.result.now _ (vec_items c.loop-i.lent) c.as_slice.result
-      (search rules) c.index.ensures c.as_slice.ensures.value c.push_reserved.ensures.items c.loop-i.invariant.0,
-  search rules,
-  search rules,
-)
-
-pub returns : goal.returns
-returns c = lend_all vec_items (vec_items c.args.lists.now) c.loop-i.i (vec_items c.loop-i.lent) (search rules) c.loop-i.invariant.0
+pub returns-clause-lists : goal.returns-clause-lists
+returns-clause-lists c =
+    let got = c.in_ok-collect.ensures.ran in
+    rw got.2.0
+    (items_from_drains got.0 got.1
+    (YieldsList-from_map_by _ (λ r. r.now) vec_items (YieldsList-from_slice c.args.lists.now cc) c.map.ensures.closure (λ x r q k. search rules)))

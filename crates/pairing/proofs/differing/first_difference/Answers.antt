@@ -1,12 +1,19 @@
-use Rattle.std.proofs.Common.{rules}
-use Rattle.pairing.proofs.Differs.{differ_same, differ_here, differ_none}
+use Rattle.std.proofs.Common.{◌≡◌, ℕ, not, eqb, rules, tests, sym, ◌∙◌}
+use Rattle.std.proofs.lemmas.Iterator.{YieldsList-from_slice, YieldsList-from_zip}
+use Rattle.std.proofs.lemmas.Iterator.Adapters.{position_from-zero}
+use Rattle.std.proofs.lemmas.Iterator.Search.{position_from_yields_List}
+use Rattle.std.specs.List.{position, zip}
+use Rattle.pairing.specs.Differing.{differ}
+use Rattle.pairing.proofs.Differs.{differ_by}
 use Rattle.pairing.proofs.differing.first_difference.Goals as goal
 
-pub returns-then-left-k : goal.returns-then-left-k
-returns-then-left-k c = differ_here c.loop-k.k c.args.left.now c.args.right.now (search rules) (search rules) (search rules) c.loop-k.invariant
-
-pub loop-k-preserved : goal.loop-k-preserved
-loop-k-preserved c = differ_same c.loop-k.k c.args.left.now c.args.right.now (search rules) (search rules) (search rules) c.loop-k.invariant
-
 pub returns : goal.returns
-returns c = differ_none c.loop-k.k c.args.left.now c.args.right.now (search rules) c.loop-k.invariant
+returns c =
+    let left = c.args.left.now in
+    let right = c.args.right.now in
+    let differs = λ (p : ℕ × ℕ). not (eqb p.0 p.1) in
+    let pairs = YieldsList-from_zip {s = c.zip.result} (YieldsList-from_slice left (cc)) (YieldsList-from_slice right (cc)) in
+    let first : c.position.result ≡ position differs (zip left right) =
+    position_from_yields_List differs c.position.new.self _ c.position.result c.position.ensures.ran pairs (λ x b q k. search (rules, tests)) in
+    let place : c.position.result ≡ differ 0 left right = first ∙ (position_from-zero differs (zip left right) ∙ sym (differ_by 0 left right)) in
+    search (rules, place)

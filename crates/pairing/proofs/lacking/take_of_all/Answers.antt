@@ -1,20 +1,34 @@
-use Rattle.std.proofs.Common.{refl}
+use Rattle.std.proofs.Common.{ℕ, ◌+◌, ◌-◌, List, refl, sym, ◌∙◌, arith, Bor}
+use Rattle.std.proofs.lemmas.Result.{err_from_is_err_and}
 use Rattle.sheets.specs.Families.{family, of}
-use Rattle.pairing.proofs.Taking.{dealt_none, dealt_more, dealt-short, dealt_all}
+use Rattle.sheets.specs.Sheets.{circle_of}
+use Rattle.sheets.specs.declared.refusal.Refusal.TheVariants.{NoCoins}
+use Rattle.pairing.proofs.Taking.{dealt_more, dealt-short, dealt_all, drawn_err, drawn_ok}
 use Rattle.pairing.proofs.lacking.take_of_all.Goals as goal
 
-pub loop-i-init : goal.loop-i-init
-loop-i-init c = dealt_none (record { n = c.args.n; t = c.args.t }) (of (family c.args.coins.now))
+abbrev slices : List (Bor (List ℕ)) → ℕ → List ℕ
+slices lists = of (family lists)
 
-pub returns-in_default : goal.returns-in_default
-returns-in_default c =
-    (dealt-short (record { n = c.args.n; t = c.args.t }) (of (family c.args.coins.now)) c.loop-i.i (of (family c.loop-i.coins)) c.loop-i-test.true c.in_default.ensures.0 c.loop-i.invariant, refl)
+pub returns-in_err-ok_or : goal.returns-in_err-ok_or
+returns-in_err-ok_or c =
+    let p = err_from_is_err_and c.from_residual.result c.from_residual.ensures.1 in
+    let at = c.loop-member.member in
+    let h = drawn_err at c.args.sheet.now.t c.threshold.result c.loop-member.coins c.loop-member.coins c.draw.new.lists c.draw.result NoCoins c.in_err-ok_or.field-0.0 c.threshold.ensures refl c.draw.ensures (sym c.ok_or.ensures.value ∙ c.in_err-ok_or.was) in
+    rw (p.1, p.2)
+    (dealt-short (circle_of c.args.sheet.now) (slices c.args.coins.now) (at - 1) at (slices c.loop-member.coins) (omega arith) (omega (arith, c.members-member-end.ensures)) h.0 c.loop-member.invariant, h.1)
 
-pub loop-i-preserved : goal.loop-i-preserved
-loop-i-preserved c =
-    dealt_more (record { n = c.args.n; t = c.args.t }) (of (family c.args.coins.now)) c.loop-i.i (of (family c.loop-i.coins)) (of (family c.draw.new.lists))
-    c.loop-i-test.true c.in-Some.ensures.0 c.in-Some.ensures.2 c.loop-i.invariant
+pub loop-member-preserved : goal.loop-member-preserved
+loop-member-preserved c =
+    let at = c.loop-member.member in
+    let h = drawn_ok at c.args.sheet.now.t c.threshold.result c.loop-member.coins c.loop-member.coins c.draw.new.lists c.draw.result NoCoins c.in_ok-ok_or.field-0 c.threshold.ensures refl c.draw.ensures (sym c.ok_or.ensures.value ∙ c.in_ok-ok_or.was) in
+    dealt_more (circle_of c.args.sheet.now) (slices c.args.coins.now) (at - 1) at (slices c.loop-member.coins) (omega arith) (slices c.draw.new.lists) (at + 1 - 1) (omega arith)
+    (omega (arith, c.members-member-end.ensures)) h.0 h.1 c.loop-member.invariant
 
-pub returns : goal.returns
-returns c =
-    dealt_all (record { n = c.args.n; t = c.args.t }) (of (family c.args.coins.now)) c.loop-i.i (of (family c.loop-i.coins)) c.loop-i-test.false c.loop-i.auto.i-end c.loop-i.invariant
+pub returns-in_ok-ok_or : goal.returns-in_ok-ok_or
+returns-in_ok-ok_or c =
+    let z = circle_of c.args.sheet.now in
+    let at = c.loop-member.member in
+    let h = drawn_ok at c.args.sheet.now.t c.threshold.result c.loop-member.coins c.loop-member.coins c.draw.new.lists c.draw.result NoCoins c.in_ok-ok_or.field-0 c.threshold.ensures refl c.draw.ensures (sym c.ok_or.ensures.value ∙ c.in_ok-ok_or.was) in
+    dealt_all z (slices c.args.coins.now) at (slices c.draw.new.lists) (omega (arith, c.members-member-end.ensures))
+    (dealt_more z (slices c.args.coins.now) (at - 1) at (slices c.loop-member.coins) (omega arith) (slices c.draw.new.lists) at (omega arith)
+    (omega (arith, c.members-member-end.ensures)) h.0 h.1 c.loop-member.invariant)

@@ -1,6 +1,8 @@
+use Rattle.std.proofs.Common.{◌-◌}
 use Rattle.sheets.specs.Families.{family, of}
+use Rattle.sheets.specs.Sheets.{circle_of}
 use Rattle.pairing.proofs.Taking.{Dealt}
 use Rattle.pairing.proofs.lacking.take_of_all.Given as goal
 
-abbrev pub invariant-loop-i : goal.invariant-loop-i
-invariant-loop-i l = Dealt (record { n = l.n; t = l.t }) (of (family l.initial.coins)) l.i (of (family l.coins))
+abbrev pub invariant-loop-member : goal.invariant-loop-member
+invariant-loop-member l = Dealt (circle_of l.sheet) (of (family l.initial.coins)) (l.member - 1) (of (family l.coins))
