@@ -8,7 +8,7 @@ use Rattle.shares.specs.Polynomial.{scaled}
 use Rattle.sheets.specs.Families.{family}
 use Rattle.sheets.specs.Lines.{deals}
 use Rattle.sheets.specs.declared.line.Line.{Line}
-use Rattle.sheets.specs.declared.line.Line.TheVariants.{Input, Product}
+use Rattle.sheets.specs.declared.line.Line.TheVariants.{Product}
 use Rattle.runs.specs.Row.{row_of}
 use Rattle.runs.proofs.Inrow.{at_place}
 use Rattle.runs.specs.Pairing.{shifted, paired_draw}
@@ -28,11 +28,6 @@ share_read s rows figures a i h lt low high =
     let row : get_or rows a [] ≡ row_of (share s a) = ap (λ (rs : List (List ℕ)). get_or rs a []) h.same_rows ∙ get_or-rows s.held a (λ j. 0) (omega arith) in
     let e : i - 1 + 1 ≡ i = omega arith in
     at_place (share s a) (get_or rows a []) (i - 1) (omega arith) row ∙ ap (share s a) e
-
-pub secret_input : (l : Line) (w i : ℕ) (s : State) (rows : List (List ℕ)) (figures : ℕ → List ℕ) (list : List ℕ) → l ≡ Input w → list ≡ figures i → Side s rows figures → get_or list 0 0 ≡ secret l s i
-secret_input l w i s rows figures list is e h =
-    ap (λ (xs : List ℕ). get_or xs 0 0) (e ∙ ap (λ (f : ℕ → List ℕ). f i) h.same_figures)
-    ∙ ap (λ (x : Line). secret x s i) (sym is)
 
 pub secret_product : (l : Line) (a b i v : ℕ) (s : State) (rows : List (List ℕ)) (figures : ℕ → List ℕ) → l ≡ Product a b → (a < length rows) × (b < length rows) → 0 < i → i ≤ 15 → v ≡ get_or (get_or rows a []) (i - 1) 0 ⊗ get_or (get_or rows b []) (i - 1) 0 → Side s rows figures → v ≡ secret l s i
 secret_product l a b i v s rows figures is there low high e h =

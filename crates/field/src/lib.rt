@@ -1,4 +1,5 @@
-// Arithmetic modulo the prime P = 2^31 - 1.
+// Arithmetic modulo the prime P = 2^31 - 1. Numbers are bare words and no type of their own, since shares, coins and
+// figures are lent as slices of words, as they lie in files.
 #![tactic(auto)]
 
 ghost use Rattle.std.specs.Prelude.{◌≡◌, ◌<◌, ◌≤◌};

@@ -3,9 +3,8 @@ use Rattle.std.proofs.Common.{◌≡◌, ℕ, ◌+◌, ◌-◌, ◌<◌, ◌≤�
 use mathlib.Core.Path.{fun_ext}
 use Rattle.std.proofs.lemmas.List.{at_drop_more, at_drop_all, nil_from_length}
 use Rattle.std.proofs.lemmas.Bool.{eq-eqb, ne_eqb, cond-true, cond-false}
-use Rattle.std.proofs.lemmas.List.Recursion.{is_sum_by}
 use Rattle.std.proofs.lemmas.List.Sums.{sum_by_more}
-use Rattle.std.specs.List.{count_by, position_from, sum_by, zip}
+use Rattle.std.specs.List.{position_from, zip}
 use Rattle.field.proofs.Below.{both_parts}
 use Rattle.sheets.specs.Drawing.{after, DrawnFrom}
 use Rattle.sheets.specs.Families.{of}
@@ -13,6 +12,7 @@ use Rattle.sheets.specs.Lines.{made, gives, good, good_line, figures_needed}
 use Rattle.sheets.specs.Meaning.{figures_after}
 use Rattle.sheets.specs.declared.line.Line.{Line}
 use Rattle.sheets.specs.declared.line.Line.TheVariants.{Input, Sum, Times, Product, Open}
+use Rattle.sheets.proofs.Needed.{figures_are}
 use Rattle.runs.specs.Watching.{watches}
 use Rattle.runs.proofs.Left.{watches-member}
 use Rattle.pairing.specs.declared.differing.Place.{Place}
@@ -45,13 +45,6 @@ taken_of w before left None h =
     ap of h.1 ∙ after_empty (of before) w (nil_from_length (of before w) none)
 
 -- as many figures of a member were taken as the lines before need
-needed_by : (i : ℕ) (ls : List Line) → figures_needed i ls ≡ sum_by (λ (l : Line). cond (gives l i) 1 0) ls
-unfolding figures_needed
-needed_by i ls = is_sum_by (figures_needed i) (λ (l : Line). cond (gives l i) 1 0) refl (λ _ _. refl) ls
-
-pub needed-count : (i : ℕ) (ls : List Line) → count_by (λ (l : Line). gives l i) ls ≡ figures_needed i ls
-needed-count i ls = sym (needed_by i ls)
-
 one_or_none : (b : Bool) (k : ℕ) → k + cond b 1 0 ≡ cond b (k + 1) k
 one_or_none true k = refl
 one_or_none false k = omega arith
@@ -66,9 +59,9 @@ none_taken ls i = refl
 taken_more : (ls : List Line) (k : ℕ) (d : Line) → k < length ls → (i : ℕ) → taken_after (get_or ls k d) (taken_by ls k) i ≡ taken_by ls (k + 1) i
 taken_more ls k d lt i =
     let f : Line → ℕ = λ (l : Line). cond (gives l i) 1 0 in
-    sym (needed_by i (take (k + 1) ls)
+    sym (figures_are i (take (k + 1) ls)
     ∙ (sum_by_more f ls k d lt
-    ∙ (ap (λ (n : ℕ). n + f (get_or ls k d)) (sym (needed_by i (take k ls))) ∙ one_or_none (gives (get_or ls k d) i) (taken_by ls k i))))
+    ∙ (ap (λ (n : ℕ). n + f (get_or ls k d)) (sym (figures_are i (take k ls))) ∙ one_or_none (gives (get_or ls k d) i) (taken_by ls k i))))
 
 module _ (flags : List Bool) (ls : List Line) (F F' : ℕ → List ℕ) (n : ℕ) where
   abbrev c : ℕ → Bool

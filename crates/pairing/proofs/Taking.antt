@@ -5,7 +5,7 @@ use Rattle.std.proofs.lemmas.Bool.{lt-ltb, le-ltb, cond-true, cond-false}
 use Rattle.shares.specs.Circle.{Circle, members}
 use Rattle.std.specs.Option.{ok_or}
 use Rattle.sheets.specs.Drawing.{after, DrawnFrom}
-use Rattle.sheets.specs.Families.{family, of}
+use Rattle.sheets.specs.Families.{of}
 use Rattle.sheets.specs.Meaning.{figures_after, has_figure}
 use Rattle.std.specs.List.{list_any}
 use Rattle.sheets.specs.declared.line.Line.{Line}
@@ -53,18 +53,15 @@ module _ (z : Circle) (coins : ℕ → List ℕ) where
       (sym h.none ∙ any_done (lacks z coins) k z.n (omega arith), h.drawn ∙ ap (λ (i : ℕ). drawn_by z.t i coins) same)
 
 -- what is drawn, or why not
-pub drawn_err : (w t count : ℕ) (lists before left : List (Bor (List ℕ))) (drawn : Option (Bor (List ℕ))) (why e : Refusal) → count ≡ t → before ≡ lists → DrawnFrom w count (family before) (family left) drawn → ok_or drawn why ≡ Err e →
-    (length (of (family lists) w) < t) × (e ≡ why)
-drawn_err w t count lists before left None why e is same h told = (omega (arith, h.0, ap (λ (l : List (Bor (List ℕ))). length (of (family l) w)) same), cc)
-drawn_err w t count lists before left (Some d) why e is same h told = cc
+pub drawn_err : (w t count : ℕ) (before left : List (List ℕ)) (drawn : Option (Bor (List ℕ))) (why e : Refusal) → count ≡ t → DrawnFrom w count before left drawn → ok_or drawn why ≡ Err e →
+    (length (of before w) < t) × (e ≡ why)
+drawn_err w t count before left None why e is h told = (omega (arith, h.0), cc)
+drawn_err w t count before left (Some d) why e is h told = cc
 
-pub drawn_ok : (w t count : ℕ) (lists before left : List (Bor (List ℕ))) (drawn : Option (Bor (List ℕ))) (why : Refusal) (d : Bor (List ℕ)) → count ≡ t → before ≡ lists → DrawnFrom w count (family before) (family left) drawn → ok_or drawn why ≡ Ok d →
-    (t ≤ length (of (family lists) w)) × (of (family left) ≡ after w t (of (family lists)))
-drawn_ok w t count lists before left None why d is same h told = cc
-drawn_ok w t count lists before left (Some r) why d is same h told = (
-  omega (arith, h.0, ap (λ (l : List (Bor (List ℕ))). length (of (family l) w)) same),
-  h.2 ∙ ap₂ (λ (k : ℕ) (l : List (Bor (List ℕ))). after w k (of (family l))) is same,
-)
+pub drawn_ok : (w t count : ℕ) (before left : List (List ℕ)) (drawn : Option (Bor (List ℕ))) (why : Refusal) (d : Bor (List ℕ)) → count ≡ t → DrawnFrom w count before left drawn → ok_or drawn why ≡ Ok d →
+    (t ≤ length (of before w)) × (of left ≡ after w t (of before))
+drawn_ok w t count before left None why d is h told = cc
+drawn_ok w t count before left (Some r) why d is h told = (omega (arith, h.0), h.2 ∙ ap (λ (k : ℕ). after w k (of before)) is)
 
 -- a line that takes a figure and coins of one member
 both_have : (xs ys : List ℕ) → 1 ≤ length xs → 1 ≤ length ys → (ltb 0 (length xs) && ltb 0 (length ys)) ≡ true

@@ -1,15 +1,15 @@
 -- Figures and coins that run out in either of two runs with as many coins.
-use Rattle.std.specs.Prelude.{◌≡◌, ℕ, true, false, cond, ◌&&◌, List, [], ◌∷◌, Some, None, Ok, Err, Option, Result, vec_items}
-use Rattle.std.specs.Borrow.{Bor}
+use Rattle.std.specs.Prelude.{◌≡◌, ℕ, true, false, cond, ◌&&◌, ◌⊎◌, List, [], ◌∷◌, Some, None, Ok, Err, Option, Result}
+use Rattle.field.specs.Field.{all_below}
 use Rattle.shares.specs.Circle.{Circle, members}
 use Rattle.pairing.specs.declared.lacking.Left.{Left}
-use Rattle.sheets.specs.Families.{family, of}
+use Rattle.sheets.specs.Numbers.{lists_in, numbers}
 use Rattle.sheets.specs.Meaning.{figures_after, has_figure}
 use Rattle.std.specs.List.{list_any}
 use Rattle.sheets.specs.declared.line.Line.{Line}
 use Rattle.sheets.specs.declared.line.Line.TheVariants.{Product}
 use Rattle.sheets.specs.declared.refusal.Refusal.{Refusal}
-use Rattle.sheets.specs.declared.refusal.Refusal.TheVariants.{NoMemory, NoFigure, NoCoins}
+use Rattle.sheets.specs.declared.refusal.Refusal.TheVariants.{NoMemory, OutOfRange, NoFigure, NoCoins}
 use Rattle.runs.specs.Run.{coins_after}
 use Rattle.runs.specs.Short.{short_at, or_else}
 use Rattle.runs.specs.Steps.{lacks}
@@ -26,17 +26,19 @@ runs_out_in_either z (l ∷ ls) figures figures' coins =
 
 -- each member's lists, as far as lines have not taken from them
 abbrev pub figures_in : Left → ℕ → List ℕ
-figures_in s = of (family (vec_items s.figures))
+figures_in s = numbers s.figures
 
 abbrev pub other_figures_in : Left → ℕ → List ℕ
-other_figures_in s = of (family (vec_items s.other_figures))
+other_figures_in s = numbers s.other_figures
 
 abbrev pub coins_in : Left → ℕ → List ℕ
-coins_in s = of (family (vec_items s.coins))
+coins_in s = numbers s.coins
 
-abbrev pub LentAs : List (Bor (List ℕ)) → List (Bor (List ℕ)) → List (Bor (List ℕ)) → Result Left Refusal → Type 0
-LentAs figures figures' coins (Ok s) = (vec_items s.figures ≡ figures) × (vec_items s.other_figures ≡ figures') × (vec_items s.coins ≡ coins)
-LentAs figures figures' coins (Err e) = e ≡ NoMemory
+-- the lists as they are, or one of their numbers is p or above
+abbrev pub LentAs : List (List ℕ) → List (List ℕ) → List (List ℕ) → Result Left Refusal → Type 0
+LentAs figures figures' coins (Ok s) =
+    (lists_in s.figures ≡ figures) × (lists_in s.other_figures ≡ figures') × (lists_in s.coins ≡ coins) × ((all_below figures && (all_below figures' && all_below coins)) ≡ true)
+LentAs figures figures' coins (Err e) = (e ≡ NoMemory) ⊎ ((e ≡ OutOfRange) × ((all_below figures && (all_below figures' && all_below coins)) ≡ false))
 
 -- what a line takes
 pub record Taken (z : Circle) (l : Line) (before after : Left) : Type 0 where

@@ -7,7 +7,7 @@ ghost use Rattle.sheets.specs.Lines.{figures_needed};
 ghost use Rattle.sheets.specs.Sheets.{lines_in};
 ghost use Rattle.runs.specs.Watching.{watches};
 
-use sheets::{Line, Sheet, draw};
+use sheets::{Line, Sheet, draw, figures_in};
 
 // The first place at which two lists differ, as far as both go.
 pub(crate) fn first_difference(left: &[u32], right: &[u32]) -> Option<usize>
@@ -39,20 +39,12 @@ pub(crate) fn first_figure(
             let figure = next(figures, member);
             let other = next(other_figures, member);
             if watched[member as usize - 1] && figure != other {
-                let place = count_figures(member, &lines[..k]);
+                let place = figures_in(&lines[..k], member);
                 return Some(Place { member, place });
             }
         }
     }
     None
-}
-
-// How many figures a member gives for some lines.
-fn count_figures(member: u32, lines: &[Line]) -> usize
-    ensures { result ≡ figures_needed member lines.now }
-{
-    let is_given = |line: &&Line| matches!(**line, Line::Input(giver) if member == giver);
-    lines.iter().filter(is_given).count()
 }
 
 // Takes the next number of a member's list, or gives 0 where there is none.

@@ -4,7 +4,7 @@ ghost use Rattle.sheets.specs.Families.{family};
 ghost use Rattle.sheets.specs.Sheets.{circle_of, lines_in};
 
 use crate::lacking::Left;
-use sheets::{Refusal, Sheet, are_all_below};
+use sheets::{Refusal, Sheet};
 use std::alloc::Global;
 
 // Whether all numbers lie below P and nothing runs out in either run.
@@ -17,8 +17,5 @@ pub(crate) fn suffice(
 ) -> Result<(), Refusal>
     ensures { SufficeAs (circle_of sheet.now) (lines_in sheet.now) (family coins.now) (family figures.now) (family other_figures.now) result }
 {
-    if !are_all_below(figures) || !are_all_below(other_figures) || !are_all_below(coins) {
-        return Err(Refusal::OutOfRange);
-    }
     Left::new(heap, figures, other_figures, coins)?.take_all(sheet)
 }

@@ -1,33 +1,34 @@
 // Figures and coins that run out.
 ghost use Rattle.pairing.specs.Lacking.{LentAs, NeitherAs, TakenAs, DealersAs, figures_in, other_figures_in, coins_in, runs_out_in_either};
-ghost use Rattle.sheets.specs.Families.{family, of};
+ghost use Rattle.sheets.specs.Families.{family};
+ghost use Rattle.sheets.specs.Numbers.{numbers};
 ghost use Rattle.sheets.specs.Sheets.{circle_of, lines_in};
 
-use sheets::{Line, Refusal, Sheet, draw};
+use sheets::{Line, Lists, Refusal, Sheet};
 use std::alloc::Global;
 
 // What lines have left over of each member's figures in both runs and of its coins.
 #[derive(Drop)]
 pub(crate) struct Left<'a> {
-    figures: Vec<&'a [u32]>,
-    other_figures: Vec<&'a [u32]>,
-    coins: Vec<&'a [u32]>,
+    figures: Lists<'a>,
+    other_figures: Lists<'a>,
+    coins: Lists<'a>,
 }
 
 impl<'a> Left<'a> {
-    // All of the lists, before the first line.
+    // All of the lists, before the first line, if all their numbers lie below P.
     pub(crate) fn new(
         heap: Global,
         figures: &[&'a [u32]],
         other_figures: &[&'a [u32]],
         coins: &[&'a [u32]],
     ) -> Result<Left<'a>, Refusal>
-        ensures { LentAs figures.now other_figures.now coins.now result }
+        ensures { LentAs (family figures.now) (family other_figures.now) (family coins.now) result }
     {
         Ok(Left {
-            figures: Vec::from_slice(heap, figures)?,
-            other_figures: Vec::from_slice(heap, other_figures)?,
-            coins: Vec::from_slice(heap, coins)?,
+            figures: Lists::new(heap, figures)?,
+            other_figures: Lists::new(heap, other_figures)?,
+            coins: Lists::new(heap, coins)?,
         })
     }
 
@@ -47,9 +48,10 @@ impl<'a> Left<'a> {
     {
         match line {
             Line::Input(member) => {
-                draw(&mut self.figures, member, 1).ok_or(Refusal::NoFigure)?;
-                draw(&mut self.other_figures, member, 1).ok_or(Refusal::NoFigure)?;
-                draw(&mut self.coins, member, sheet.threshold()).ok_or(Refusal::NoCoins)?;
+                let t = sheet.threshold();
+                self.figures.draw(member, 1).ok_or(Refusal::NoFigure)?;
+                self.other_figures.draw(member, 1).ok_or(Refusal::NoFigure)?;
+                self.coins.draw(member, t).ok_or(Refusal::NoCoins)?;
                 Ok(())
             }
             Line::Product(_, _) => take_of_all(sheet, &mut self.coins),
@@ -59,11 +61,13 @@ impl<'a> Left<'a> {
 }
 
 // Takes the coins under which one member after the other deals.
-fn take_of_all(sheet: &Sheet, coins: &mut [&[u32]]) -> Result<(), Refusal>
-    ensures { DealersAs (circle_of sheet.now) (of (family coins.old)) (of (family coins.new)) result }
+fn take_of_all(sheet: &Sheet, coins: &mut Lists) -> Result<(), Refusal>
+    ensures { DealersAs (circle_of sheet.now) (numbers coins.old) (numbers coins.new) result }
 {
     for member in 1..=sheet.members() {
-        draw(coins, member as u32, sheet.threshold()).ok_or(Refusal::NoCoins)?;
+        coins
+            .draw(member as u32, sheet.threshold())
+            .ok_or(Refusal::NoCoins)?;
     }
     Ok(())
 }

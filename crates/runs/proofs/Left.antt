@@ -1,9 +1,8 @@
 -- Loops over members 1 to n that append something for each: what was appended, followed by what is left, is the whole.
-use Rattle.std.proofs.Common.{◌≡◌, ℕ, zero, suc, ◌+◌, ◌-◌, ◌<◌, ◌≤◌, Bool, true, false, cond, ◌⊎◌, List, [], ◌∷◌, ◌++◌, map, length, get_or, filter, sym, refl, ap, ◌∙◌, inl, inr, add-one, arith}
+use Rattle.std.proofs.Common.{◌≡◌, ℕ, zero, suc, ◌+◌, ◌-◌, ◌<◌, ◌≤◌, Bool, true, false, cond, List, [], ◌∷◌, ◌++◌, map, get_or, filter, sym, refl, ap, ◌∙◌, add-one, arith}
 use Rattle.std.specs.List.{range_with_len, flat_map}
-use Rattle.std.proofs.lemmas.List.{append_assoc, append-nil, get_or_past}
+use Rattle.std.proofs.lemmas.List.{append_assoc, append-nil}
 use Rattle.shares.specs.Circle.{members}
-use Rattle.runs.specs.Row.{in_row}
 use Rattle.runs.specs.Watching.{watches}
 
 -- members k + 1 to n
@@ -53,25 +52,6 @@ kept_is c f (x ∷ xs) = one (c x) f x (filter c xs) ∙ ap (λ (ys : List ℕ).
 
 pub watches_at : (flags : List Bool) (k : ℕ) → watches flags (k + 1) ≡ get_or flags k false
 watches_at flags k = ap (watches flags) (add-one k)
-
--- a flag's value decides what is appended
-pub when_watched : (flags : List Bool) (k : ℕ) (xs : List ℕ) → get_or flags k false ≡ true → xs ≡ cond (watches flags (k + 1)) xs []
-when_watched flags k xs e = sym (ap (λ (b : Bool). cond b xs []) (watches_at flags k ∙ e))
-
-pub when_not : (flags : List Bool) (k : ℕ) (xs : List ℕ) → get_or flags k false ≡ false → [] ≡ cond (watches flags (k + 1)) xs []
-when_not flags k xs e = sym (ap (λ (b : Bool). cond b xs []) (watches_at flags k ∙ e))
-
-pub in_row_lem : (row : List ℕ) (k : ℕ) → in_row row (k + 1) ≡ get_or row k 0
-in_row_lem row k = let e : k + 1 - 1 ≡ k = omega arith in ap (λ (i : ℕ). get_or row i 0) e
-
-pub share-watched : (flags : List Bool) (row : List ℕ) (k : ℕ) → get_or flags k false ≡ true → get_or row k 0 ∷ [] ≡ each (watches flags) (in_row row) (k + 1)
-share-watched flags row k e =
-    ap (λ (x : ℕ). x ∷ []) (sym (in_row_lem row k)) ∙ when_watched flags k (in_row row (k + 1) ∷ []) e
-
-pub watches_nobody : (flags : List Bool) (w : ℕ) → length flags ≡ 15 → (w ≡ 0) ⊎ (15 < w) → false ≡ watches flags w
-watches_nobody flags zero len h = refl
-watches_nobody flags (suc k) len (inl e) = absurd (omega arith)
-watches_nobody flags (suc k) len (inr lt) = sym (get_or_past flags k false (omega arith))
 
 pub watches-member : (flags : List Bool) (w : ℕ) → (w ≡ 0 → ⊥) → get_or flags (w - 1) false ≡ watches flags w
 watches-member flags zero ne = absurd (ne refl)

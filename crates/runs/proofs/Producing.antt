@@ -1,10 +1,10 @@
 -- All members deal their products, one after the other.
-use Rattle.std.proofs.Common.{◌≡◌, ℕ, zero, suc, ◌+◌, ◌<◌, ◌≤◌, Bool, true, false, cond, ◌&&◌, eqb, ltb, leb, List, [], ◌∷◌, ◌++◌, map, length, get_or, take, drop, replicate, Some, None, Ok, Err, Result, sym, refl, ap, ◌∙◌, subst, ap₂, inl, arith, lit<}
+use Rattle.std.proofs.Common.{◌≡◌, ℕ, zero, suc, ◌+◌, ◌<◌, ◌≤◌, Bool, false, cond, ◌&&◌, eqb, ltb, leb, List, [], ◌∷◌, ◌++◌, map, length, get_or, take, drop, replicate, Some, None, Ok, Err, Result, sym, refl, ap, ◌∙◌, subst, ap₂, inl, arith}
 use mathlib.Core.Path.{fun_ext}
 use Rattle.std.specs.List.{range_with_len, flat_map}
 use Rattle.std.proofs.lemmas.List.FromFn.{length-map-range_with_len}
 use Rattle.std.proofs.lemmas.List.{append_assoc, drop_more, drop_all, get_or-replicate, get_or-take}
-use Rattle.std.proofs.lemmas.Bool.{ltb-false, or_parts, cond-true, cond-false}
+use Rattle.std.proofs.lemmas.Bool.{ltb-false, or_parts, cond-false}
 use Rattle.std.proofs.lemmas.Bool.Decides.{nat_tests}
 use Rattle.field.specs.Field.{p, ◌⊕◌, ◌⊗◌}
 use Rattle.field.proofs.Ring.{⊕_assoc, ⊕-0, reduced}
@@ -14,14 +14,11 @@ use Rattle.shares.specs.Weights.{weights, dot, joined}
 use Rattle.shares.proofs.Dots.{dot_none, dot-take}
 use Rattle.sheets.specs.Drawing.{after}
 use Rattle.std.specs.List.{list_any}
-use Rattle.sheets.specs.declared.line.Line.TheVariants.{Product}
 use Rattle.sheets.specs.declared.refusal.Refusal.{Refusal}
 use Rattle.sheets.specs.declared.refusal.Refusal.TheVariants.{NoCoins}
 use Rattle.runs.specs.Row.{row_of}
 use Rattle.runs.specs.Seen.{watched_in}
-use Rattle.runs.specs.Steps.{Reduced, lacks, Dealing, dealing, Multiplied, MultipliedAs, ProductAs}
-use Rattle.runs.specs.Short.{short_at}
-use Rattle.runs.proofs.Dealers.{below-after}
+use Rattle.runs.specs.Steps.{lacks, Dealing, dealing, Multiplied, MultipliedAs, ProductAs}
 use Rattle.runs.proofs.Inrow.{at_place, row_from}
 use Rattle.runs.proofs.Left.{Left, from, from_none, from_more, from_all, left_none, left_more, left_all}
 
@@ -40,9 +37,6 @@ drawn_more t k coins = fun_ext (λ (i : ℕ). drawn_more_at t k i (coins i) (dro
 
 pub next_undrawn : (t k : ℕ) (coins : ℕ → List ℕ) → drawn_by t k coins (k + 1) ≡ coins (k + 1)
 next_undrawn t k coins = cond-false (ltb 0 (k + 1) && leb (k + 1) k) (drop t (coins (k + 1))) (coins (k + 1)) (grind (arith, nat_tests))
-
-pub drawn-reduced : (t k : ℕ) (coins : ℕ → List ℕ) → Reduced coins → Reduced (drawn_by t k coins)
-drawn-reduced t k coins h i = below-after (ltb 0 i && leb i k) t (coins i) (h i)
 
 any_false : (test : ℕ → Bool) (a n k : ℕ) → list_any test (range_with_len a n) ≡ false → k < n → test (a + k) ≡ false
 any_false test a zero k e lt = absurd (omega arith)
@@ -64,9 +58,6 @@ never_short z coins now k e lt is short =
 
 pub zeros : (j : ℕ) → j < 15 → get_or {A = ℕ} (replicate 15 0) j 0 ≡ 0
 zeros j lt = get_or-replicate 15 j 0 0 lt
-
-pub zeros_below : (j : ℕ) → j < 15 → get_or {A = ℕ} (replicate 15 0) j 0 < p
-zeros_below j lt = subst (λ (x : ℕ). x < p) (sym (zeros j lt)) (lit< tt)
 
 pub weight_at : (z : Circle) (held : List ℕ) (k : ℕ) → take (m z) held ≡ weights (m z) → k < m z → get_or held k 0 ≡ get_or (weights (m z)) k 0
 weight_at z held k e lt = sym (get_or-take (m z) held k 0 lt) ∙ ap (λ (xs : List ℕ). get_or xs k 0) e
@@ -186,6 +177,3 @@ producing z c f g coins coins' seen seen₁ seen₂ (Ok row) e noted h =
       noted = h.noted ∙ (ap (λ (xs : List ℕ). xs ++ got) noted ∙ append_assoc seen own got);
     }
 producing z c f g coins coins' seen seen₁ seen₂ (Err x) e noted h = inl h
-
-pub all_short : (z : Circle) (coins : ℕ → List ℕ) (e : Refusal) → e ≡ NoCoins → list_any (lacks z coins) (members z.n) ≡ true → short_at z (Product 0 0) coins coins ≡ Some e
-all_short z coins e is short = cond-true (list_any (lacks z coins) (members z.n)) (Some NoCoins) None short ∙ sym (ap (λ (x : Refusal). Some x) is)

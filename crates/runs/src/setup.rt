@@ -2,6 +2,7 @@
 ghost use Rattle.std.specs.Prelude.{◌≡◌, ◌+◌, ◌≤◌, take};
 ghost use Rattle.shares.specs.Weights.{weights as weights_of};
 
+// Fifteen words and flags whatever n is, so that a setup asks for no memory.
 #[derive(Drop)]
 pub struct Setup {
     pub n: usize,

@@ -1,4 +1,5 @@
-// Shamir's secret sharing: dealing a number to n members under t coins, and joining their shares again.
+// Shamir's secret sharing: dealing a number to n members under t coins, and joining their shares again. Coins and shares
+// are lent slices of words, so each function asks that what it is lent lies below P.
 #![tactic(auto)]
 
 mod dealing;

@@ -3,20 +3,8 @@ use Rattle.std.proofs.Common.{◌≡◌, ℕ, ◌+◌, ◌<◌, ◌≤◌, Bool,
 use Rattle.std.proofs.lemmas.List.{at_drop_more, at_drop_all}
 use Rattle.sheets.specs.Lines.{made}
 use Rattle.sheets.specs.Reading.{undefined, any_undefined}
-use Rattle.std.specs.List.{list_any}
 use Rattle.sheets.specs.declared.line.Line.{Line}
 use Rattle.sheets.specs.declared.line.Line.TheVariants.{Input, Sum, Times, Product, Open}
-
-pub any_hit : {X : Type 0} (test : X → Bool) (xs : List X) (i : ℕ) (d : X) → i < length xs → true ≡ test (get_or xs i d) → true ≡ list_any test (drop i xs)
-any_hit test xs i d lt e =
-    ap (λ (b : Bool). b || list_any test (drop (i + 1) xs)) e ∙ sym (at_drop_more (list_any test) xs i d lt)
-
-pub any_more : {X : Type 0} (test : X → Bool) (xs : List X) (i : ℕ) (d : X) → i < length xs → false ≡ test (get_or xs i d) → list_any test (drop i xs) ≡ list_any test (drop (i + 1) xs)
-any_more test xs i d lt e =
-    at_drop_more (list_any test) xs i d lt ∙ ap (λ (b : Bool). b || list_any test (drop (i + 1) xs)) (sym e)
-
-pub any_all : {X : Type 0} (test : X → Bool) (xs : List X) (i : ℕ) → length xs ≤ i → false ≡ list_any test (drop i xs)
-any_all test xs i le = sym (at_drop_all (list_any test) xs i le)
 
 undefined_step : (k : ℕ) (xs : List Line) (i : ℕ) (d : Line) → i < length xs → any_undefined k (drop i xs) ≡ undefined k (get_or xs i d) || any_undefined (made (get_or xs i d) k) (drop (i + 1) xs)
 unfolding any_undefined

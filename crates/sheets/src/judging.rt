@@ -36,6 +36,7 @@ fn names_no_member(n: u32, lines: &[Line]) -> bool
     lines.iter().any(|line| line.is_out_of_range(n))
 }
 
+// A loop, since each line is judged by how many values the lines before it make.
 fn names_no_value(lines: &[Line]) -> bool
     requires { length lines.now < 65536 }
     ensures { result ≡ any_undefined 0 lines.now }

@@ -19,6 +19,7 @@ pub use drawing::draw;
 pub use laws::{judgement_law, reread_law, rewritten_law};
 pub use line::Line;
 pub use lists::Lists;
+pub use needs::figures_in;
 pub use numbers::{are_all_below, are_below};
 pub use refusal::Refusal;
 pub use sheet::Sheet;

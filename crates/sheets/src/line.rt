@@ -19,7 +19,8 @@ pub enum Line {
 }
 
 impl Line {
-    // The line in nine bytes: a kind and two numbers, of which the second is 0 where the kind has only one.
+    // The line in nine bytes: a kind and two numbers, of which the second is 0 where the kind has only one. Named as
+    // `Sheet::read` is and no TryFrom: the contract cites the format's definitions.
     pub(crate) fn read(bytes: &[u8; 9]) -> Option<Line>
         ensures { result ≡ (if malformed bytes.now then None else Some (line_of bytes.now)) }
     {
@@ -76,14 +77,11 @@ impl Line {
         }
     }
 
-    // How many figures a member gives for it.
-    pub(crate) fn figures_of(self, member: u32) -> usize
-        ensures { result ≡ (if gives self member then 1 else 0) }
+    // A member gives its next figure for it.
+    pub(crate) fn is_given_by(self, member: u32) -> bool
+        ensures { result ≡ gives self member }
     {
-        match self {
-            Line::Input(giver) if giver == member => 1,
-            _ => 0,
-        }
+        matches!(self, Line::Input(giver) if giver == member)
     }
 
     // How many coins a member draws for it, in a circle of n where a dealer draws t.

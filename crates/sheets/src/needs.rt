@@ -31,7 +31,7 @@ impl Sheet {
     pub fn figures_needed(&self, member: u32) -> usize
         ensures { result ≡ figures_needed member (lines_in self.now) }
     {
-        self.lines.iter().map(|line| line.figures_of(member)).sum()
+        figures_in(&self.lines, member)
     }
 
     // How many coins a member draws.
@@ -43,4 +43,11 @@ impl Sheet {
             .map(|line| line.coins_of(self.n, self.t, member))
             .sum()
     }
+}
+
+// How many figures a member gives for some lines.
+pub fn figures_in(lines: &[Line], member: u32) -> usize
+    ensures { result ≡ figures_needed member lines.now }
+{
+    lines.iter().filter(|line| line.is_given_by(member)).count()
 }

@@ -38,8 +38,8 @@ returns-then-figure-other c =
     let F' = slices c.args.other_figures.now in
     let ls = c.lines-lines.result.now in
     let w = c.in-Input.member in
-    let place : c.count_figures-place.result ≡ taken_by ls c.loop-k.k w =
-    c.count_figures-place.ensures ∙ ap (λ (j : ℕ). figures_needed w (take j ls)) (omega arith) in
+    let place : c.figures_in-place.result ≡ taken_by ls c.loop-k.k w =
+    c.figures_in-place.ensures ∙ ap (λ (j : ℕ). figures_needed w (take j ls)) (omega arith) in
     let at : ℕ → Option Place = λ k. Some (record { member = w; place = k }) in
     ap at place
     ∙ (sym (found c.args.watched.now ls F F' c.args.sheet.now.n c.loop-k.k (Input 0) (slices c.loop-k.figures) (slices c.loop-k.other_figures) c.loop-k-test.true c.loop-k.invariant
