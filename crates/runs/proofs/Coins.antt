@@ -1,5 +1,5 @@
 -- Noting the coins that all members are about to draw, one member after the other.
-use Rattle.std.proofs.Common.{◌≡◌, ℕ, ◌+◌, ◌<◌, ◌≤◌, Bool, true, false, cond, ◌||◌, List, [], ◌++◌, length, take, sym, refl, ap, ◌∙◌}
+use Rattle.std.proofs.Common.{◌≡◌, ℕ, ◌+◌, ◌-◌, ◌<◌, ◌≤◌, Bool, true, false, cond, ◌||◌, List, [], ◌++◌, length, take, sym, refl, ap, ◌∙◌, subst, arith}
 use Rattle.std.proofs.lemmas.Bool.{lt-ltb, le-ltb}
 use Rattle.std.specs.List.{flat_map}
 use Rattle.shares.specs.Circle.{Circle, members}
@@ -31,15 +31,28 @@ module _ (z : Circle) (c : ℕ → Bool) (coins : ℕ → List ℕ) where
   pub noted_none : (out : List ℕ) → Noted out 0 out
   noted_none out = record { lacking = ap (list_any (lacks z coins)) (from_none z.n); left = left_none own out z.n }
 
-  pub noted_more : (before : List ℕ) (k : ℕ) (out out' : List ℕ) → k < z.n → z.t ≤ length (coins (k + 1)) → out' ≡ out ++ own (k + 1) → Noted before k out → Noted before (k + 1) out'
+  noted_more : (before : List ℕ) (k : ℕ) (out out' : List ℕ) → k < z.n → z.t ≤ length (coins (k + 1)) → out' ≡ out ++ own (k + 1) → Noted before k out → Noted before (k + 1) out'
   noted_more before k out out' lt le e h = record {
     lacking = any_no (lacks z coins) k z.n lt (le-ltb (length (coins (k + 1))) z.t le) ∙ h.lacking;
     left = left_more own before z.n k out out' (own (k + 1)) lt refl e h.left;
   }
 
-  pub noted-short : (before : List ℕ) (k : ℕ) (out : List ℕ) → k < z.n → length (coins (k + 1)) < z.t → Noted before k out → list_any (lacks z coins) (members z.n) ≡ true
-  noted-short before k out lt short h =
+  noted-lacking : (before : List ℕ) (k : ℕ) (out : List ℕ) → k < z.n → length (coins (k + 1)) < z.t → Noted before k out → list_any (lacks z coins) (members z.n) ≡ true
+  noted-lacking before k out lt short h =
       sym h.lacking ∙ any_yes (lacks z coins) k z.n lt (lt-ltb (length (coins (k + 1))) z.t short)
+
+  -- member w is the next
+  module _ (before : List ℕ) (w : ℕ) (out : List ℕ) (first : 1 ≤ w) (last : w ≤ z.n) (h : Noted before (w - 1) out) where
+    same : w - 1 + 1 ≡ w
+    same = omega arith
+
+    pub noted_next : (out' : List ℕ) → z.t ≤ length (coins w) → out' ≡ out ++ own w → Noted before w out'
+    noted_next out' le e =
+        subst (λ (v : ℕ). Noted before v out') same
+        (noted_more before (w - 1) out out' (omega arith) (subst (λ (v : ℕ). z.t ≤ length (coins v)) (sym same) le) (subst (λ (v : ℕ). out' ≡ out ++ own v) (sym same) e) h)
+
+    pub noted-short : length (coins w) < z.t → list_any (lacks z coins) (members z.n) ≡ true
+    noted-short short = noted-lacking before (w - 1) out (omega arith) (subst (λ (v : ℕ). length (coins v) < z.t) (sym same) short) h
 
   pub noted_all : (before : List ℕ) (k : ℕ) (out : List ℕ) → z.n ≤ k → Noted before k out → (list_any (lacks z coins) (members z.n) ≡ false) × (out ≡ before ++ flat_map own (members z.n))
   noted_all before k out le h = (sym h.lacking ∙ any_done (lacks z coins) k z.n le, left_all own before z.n k out le h.left)

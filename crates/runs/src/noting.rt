@@ -64,8 +64,8 @@ impl Setup {
     pub(crate) fn note_all_coins(&self, coins: &Lists, seen: &mut Vec<u32>) -> Result<(), Refusal>
         ensures { AllCoinsNoted (circle_in self.now) (watches self.now.watched) (numbers coins.now) seen.old.items seen.new.items result }
     {
-        for k in 0..self.n {
-            self.note_coins(k as u32 + 1, coins, seen)?;
+        for member in 1..=self.n {
+            self.note_coins(member as u32, coins, seen)?;
         }
         Ok(())
     }

@@ -69,7 +69,7 @@ impl Refusal {
     }
 }
 
-// Want of memory, so that `?` hands it on.
+// Want of memory, so that `?` hands it on. By hand, since clauses read `from_gives`, which no derive states.
 impl From<AllocError> for Refusal {
     ghost from_gives = { λ _ r. r ≡ NoMemory };
 
@@ -88,6 +88,7 @@ impl<T: Drop> From<AllocFailed<T>> for Refusal {
 
 impl Error for Refusal {}
 
+// By hand, since contracts tell the line, and a derived one states no output.
 impl fmt::Display for Refusal {
     ghost output = { λ e. Some (told e) };
 

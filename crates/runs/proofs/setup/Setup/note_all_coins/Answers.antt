@@ -1,21 +1,23 @@
-use Rattle.std.proofs.Common.{vec_items, inl, inr}
+use Rattle.std.proofs.Common.{ℕ, vec_items, subst, inl, inr, arith}
 use Rattle.std.proofs.lemmas.Result.{err_from_is_err_and}
 use Rattle.sheets.specs.Numbers.{numbers}
 use Rattle.runs.specs.Setups.{circle_in}
 use Rattle.runs.specs.Watching.{watches}
-use Rattle.runs.proofs.Coins.{noted_none, noted_more, noted-short, noted_all}
+use Rattle.runs.proofs.Coins.{Noted, noted_none, noted_next, noted-short, noted_all}
 use Rattle.runs.proofs.setup.Setup.note_all_coins.Goals as goal
 
-pub loop-k-init : goal.loop-k-init
-loop-k-init c =
+pub loop-member-init : goal.loop-member-init
+loop-member-init c =
     noted_none (circle_in c.args.self.now) (watches c.args.self.now.watched) (numbers c.args.coins.now) (vec_items c.args.seen.now)
 
-pub loop-k-preserved : goal.loop-k-preserved
-loop-k-preserved c =
+pub loop-member-preserved : goal.loop-member-preserved
+loop-member-preserved c =
+    let z = circle_in c.args.self.now in
     let h = c.in_ok-note_coins.ensures in
-    noted_more (circle_in c.args.self.now) (watches c.args.self.now.watched) (numbers c.args.coins.now)
-    (vec_items c.args.seen.now) c.loop-k.k (vec_items c.loop-k.seen) (vec_items c.note_coins.new.seen)
-    c.loop-k-test.true h.0 h.1 c.loop-k.invariant
+    let at = c.loop-member.member in
+    subst (λ (k : ℕ). Noted z (watches c.args.self.now.watched) (numbers c.args.coins.now) (vec_items c.args.seen.now) k (vec_items c.note_coins.new.seen)) (omega arith)
+    (noted_next z (watches c.args.self.now.watched) (numbers c.args.coins.now)
+    (vec_items c.args.seen.now) at (vec_items c.loop-member.seen) (omega arith) (omega arith) c.loop-member.invariant (vec_items c.note_coins.new.seen) h.0 h.1)
 
 pub returns-in_err-note_coins : goal.returns-in_err-note_coins
 returns-in_err-note_coins c =
@@ -26,11 +28,15 @@ returns-in_err-note_coins c =
       | inr h ↦ inr (
         h.0,
         noted-short (circle_in c.args.self.now) (watches c.args.self.now.watched) (numbers c.args.coins.now)
-            (vec_items c.args.seen.now) c.loop-k.k (vec_items c.loop-k.seen) c.loop-k-test.true h.1 c.loop-k.invariant,
+            (vec_items c.args.seen.now) c.loop-member.member (vec_items c.loop-member.seen) (omega arith) (omega arith) c.loop-member.invariant h.1,
       )
     ])
 
-pub returns : goal.returns
-returns c =
-    noted_all (circle_in c.args.self.now) (watches c.args.self.now.watched) (numbers c.args.coins.now)
-    (vec_items c.args.seen.now) c.loop-k.k (vec_items c.loop-k.seen) c.loop-k-test.false c.loop-k.invariant
+pub returns-in_ok-note_coins : goal.returns-in_ok-note_coins
+returns-in_ok-note_coins c =
+    let z = circle_in c.args.self.now in
+    let h = c.in_ok-note_coins.ensures in
+    let at = c.loop-member.member in
+    noted_all z (watches c.args.self.now.watched) (numbers c.args.coins.now) (vec_items c.args.seen.now) at (vec_items c.note_coins.new.seen) (omega arith)
+    (noted_next z (watches c.args.self.now.watched) (numbers c.args.coins.now)
+    (vec_items c.args.seen.now) at (vec_items c.loop-member.seen) (omega arith) (omega arith) c.loop-member.invariant (vec_items c.note_coins.new.seen) h.0 h.1)
