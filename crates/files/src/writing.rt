@@ -51,7 +51,7 @@ pub fn write_list(list: &[u32], out: &mut Vec<u8>) -> Result<(), Refusal>
     Ok(())
 }
 
-// The words, for which there is room.
+// The words, for which there is room. It is asked for here: a type for a vector with room would say the same.
 fn put_words(words: &[u32], out: &mut Vec<u8>)
     requires { vec_len out.old + length words.now * 4 ≤ vec_capacity out.old }
     ensures { out.new.items ≡ out.old.items ++ bytes_of words.now }

@@ -9,7 +9,7 @@ ghost use Rattle.shares.specs.Circle.{members};
 ghost use Rattle.runs.specs.Watching.{watches};
 
 // The first eight coefficients of the product of 1 - x / w over the watched w among 1 to n. At most seven members are
-// ever watched where there is a pairing, so these are all.
+// ever watched where there is a pairing, so these are all, and an array holds them.
 pub fn mask(n: usize, watched: &[bool; 15]) -> [u32; 8]
     requires { n ≤ 15 }
     ensures { Holds result (mask_of (filter (watches watched.now) (members n))) }

@@ -1,5 +1,6 @@
 // The shares of a value as a row of 15 words, member j's at place j - 1. Rows are always worked on whole, so that the
-// loops have a fixed length.
+// loops have a fixed length. Each operation has its own loop of one line: one loop over a closure would not be shorter,
+// and what the closure does would have to be said again.
 ghost use Rattle.std.specs.Prelude.{◌≡◌, ℕ, ◌<◌, T, List, replicate};
 ghost use Rattle.field.specs.Field.{p, below};
 ghost use Rattle.shares.specs.Polynomial.{dealt, added, scaled};

@@ -61,7 +61,7 @@ fn append_lines(out: &mut Vec<u8>, lines: &[Line])
     }
 }
 
-// Appends to a vector that has room.
+// Appends to a vector that has room, which is asked for here: a type for a vector with room would say the same.
 fn append(out: &mut Vec<u8>, bytes: &[u8])
     requires { vec_len out.old + length bytes.now ≤ vec_capacity out.old }
     ensures items { out.new.items ≡ out.old.items ++ bytes.now }

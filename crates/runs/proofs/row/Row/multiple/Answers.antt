@@ -10,9 +10,3 @@ invariant_of-result c =
     (sym (scaled_from c.args.factor c.self.inside.shares c.loop-share.share-items (omega (arith, c.self.told, c.loop-share-test.array_long))
     (λ k lt. c.loop-share.invariant.0 k (omega (arith, c.self.told, c.loop-share-test.false)))))
     (scaled-below c.args.factor c.self.inside.shares)
-
-pub returns : goal.returns
-returns c =
-    scaled_from c.args.factor c.self.inside.shares c.loop-share.share-items (omega (arith, c.self.told, c.loop-share-test.array_long))
-    (λ k lt. c.loop-share.invariant.0 k (omega (arith, c.self.told, c.loop-share-test.false)))
-    ∙ ap (scaled c.args.factor) c.self.view_is

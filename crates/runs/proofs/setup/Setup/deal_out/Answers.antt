@@ -5,9 +5,6 @@ use Rattle.runs.specs.Watching.{watches}
 use Rattle.runs.proofs.Dealt.{dealt_out}
 use Rattle.runs.proofs.setup.Setup.deal_out.Goals as goal
 
-pub deal-row-requires : goal.deal-row-requires
-deal-row-requires c = (c.requires, c.in-Some.ensures.small)
-
 pub returns : goal.returns
 returns c =
     let drew = c.in-Some.ensures.drawn in

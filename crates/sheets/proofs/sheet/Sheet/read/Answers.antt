@@ -1,32 +1,10 @@
-use Rattle.std.proofs.Common.{◌≡◌, ℕ, map, length, get_or, Some, vec_items, vec_len, sym, ap, ◌∙◌, inl, inr, ⊎_elim, arith, rules}
+use Rattle.std.proofs.Common.{◌≡◌, ℕ, map, length, get_or, vec_items, vec_len, sym, ap, ◌∙◌, inr, arith, rules}
 use Rattle.std.specs.List.{list_any}
 use Rattle.std.proofs.lemmas.List.{length-map}
 use Rattle.std.proofs.lemmas.Result.{err_from_is_err_and}
 use Rattle.sheets.specs.Reading.{malformed, line_of, verdict_on}
-use Rattle.sheets.proofs.Verdicts.{Framed, Shape, Clean, all_parts, parts_of_tail, verdict-malformed, verdict_misshapen, verdict_lines, shape_from, clean-from, good-from}
+use Rattle.sheets.proofs.Verdicts.{Framed, Shape, Clean, all_parts, parts_of_tail, verdict_lines, shape_from, clean-from, good-from}
 use Rattle.sheets.proofs.sheet.Sheet.read.Goals as goal
-
-pub returns-in_err-lines : goal.returns-in_err-lines
-returns-in_err-lines c =
-    let bs = c.args.bytes.now in
-    let h : Framed bs c.from_be_bytes-count.result = record { kind = search rules; five = search rules; counted = search rules; long = search rules } in
-    let all = all_parts bs c.from_be_bytes-count.result h c.as_chunks.ensures.front in
-    let p = err_from_is_err_and c.from_residual.result c.from_residual.ensures.1 in
-    rw (p.1, p.2)
-    (⊎_elim inl (λ e. inr (verdict-malformed bs c.from_be_bytes-count.result h (ap (list_any malformed) (sym all) ∙ e.1) ∙ ap Some (sym e.0))) c.in_err-lines.ensures)
-
-pub returns-then-is_bad_shape : goal.returns-then-is_bad_shape
-returns-then-is_bad_shape c =
-    let bs = c.args.bytes.now in
-    let h : Framed bs c.from_be_bytes-count.result = record { kind = search rules; five = search rules; counted = search rules; long = search rules } in
-    let all = all_parts bs c.from_be_bytes-count.result h c.as_chunks.ensures.front in
-    inr (verdict_misshapen bs c.from_be_bytes-count.result h (ap (list_any malformed) (sym all) ∙ c.in_ok-lines.ensures.0) (sym c.if-is_bad_shape.ensures))
-
-pub judge-requires : goal.judge-requires
-judge-requires c =
-    let h : Framed c.args.bytes.now c.from_be_bytes-count.result = record { kind = search rules; five = search rules; counted = search rules; long = search rules } in
-    let lines = c.in_ok-lines.ensures.1 in
-    omega (arith, ap length c.deref.ensures.value, ap length lines, length-map c.as_chunks.result.0.now line_of, c.as_chunks.ensures.front_len, h.long)
 
 pub invariant_of-result : goal.invariant_of-result
 invariant_of-result c =
