@@ -5,7 +5,7 @@ use Rattle.std.specs.List.{flat_map}
 use Rattle.shares.specs.Circle.{Circle, members}
 use Rattle.std.specs.List.{list_any}
 use Rattle.runs.specs.Steps.{lacks}
-use Rattle.runs.proofs.Left.{Left, from, from_none, from_more, from_all, left_none, left_more, left_all}
+use Rattle.runs.proofs.Left.{Left, from, from_more, from_all, left_more, left_all}
 
 -- a test of each member
 pub any_no : (test : ℕ → Bool) (k n : ℕ) → k < n → test (k + 1) ≡ false → list_any test (from (k + 1) n) ≡ list_any test (from k n)
@@ -27,9 +27,6 @@ module _ (z : Circle) (c : ℕ → Bool) (coins : ℕ → List ℕ) where
   pub record Noted (before : List ℕ) (k : ℕ) (out : List ℕ) : Type 0 where
     pub lacking : list_any (lacks z coins) (from k z.n) ≡ list_any (lacks z coins) (members z.n)
     pub left : Left own before z.n k out
-
-  pub noted_none : (out : List ℕ) → Noted out 0 out
-  noted_none out = record { lacking = ap (list_any (lacks z coins)) (from_none z.n); left = left_none own out z.n }
 
   noted_more : (before : List ℕ) (k : ℕ) (out out' : List ℕ) → k < z.n → z.t ≤ length (coins (k + 1)) → out' ≡ out ++ own (k + 1) → Noted before k out → Noted before (k + 1) out'
   noted_more before k out out' lt le e h = record {

@@ -1,13 +1,6 @@
 use Rattle.std.proofs.Common.{rules}
-use Rattle.field.proofs.Below.{below-get_or}
-use Rattle.shares.proofs.Values.{value-nil, value_first_rest, below_rest}
+use Rattle.shares.proofs.Values.{value-nil, value_first_rest}
 use Rattle.shares.proofs.dealing.+value.Goals as goal
-
-pub value-requires : goal.value-requires
-value-requires t c = search (rules, below_rest)
-
-pub sum-requires : goal.sum-requires
-sum-requires t c = search (rules, below-get_or)
 
 pub returns-in-empty : goal.returns-in-empty
 returns-in-empty t c = search (rules, value-nil)

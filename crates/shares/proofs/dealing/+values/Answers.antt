@@ -1,13 +1,6 @@
 use Rattle.std.proofs.Common.{length, ◌∙◌, rules}
-use Rattle.field.proofs.Below.{below-get_or}
-use Rattle.shares.proofs.Values.{values-nil, values_first_rest, below_rest}
+use Rattle.shares.proofs.Values.{values-nil, values_first_rest}
 use Rattle.shares.proofs.dealing.+values.Goals as goal
-
-pub values-requires : goal.values-requires
-values-requires t c = search (rules, below_rest)
-
-pub raise-requires : goal.raise-requires
-raise-requires t c = search (rules, below-get_or)
 
 pub returns-in-empty : goal.returns-in-empty
 returns-in-empty t c =

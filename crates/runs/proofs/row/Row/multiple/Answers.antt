@@ -1,6 +1,5 @@
-use Rattle.std.proofs.Common.{T, sym, subst, ap, ◌∙◌, arith}
+use Rattle.std.proofs.Common.{T, sym, subst, arith}
 use Rattle.field.specs.Field.{below}
-use Rattle.shares.specs.Polynomial.{scaled}
 use Rattle.runs.proofs.RowSteps.{scaled_from, scaled-below}
 use Rattle.runs.proofs.row.Row.multiple.Goals as goal
 

@@ -24,9 +24,6 @@ loop-i-init c =
       λ f g ea eb. dealings_none (circle_in c.args.self.now) (watches c.args.self.now.watched) f g (numbers c.args.coins.now) (vec_items c.args.seen.now) c.zero-made.result empty,
     )
 
-pub deal_out-requires : goal.deal_out-requires
-deal_out-requires c = c.product-secret.ensures.1
-
 pub returns-in_err-row : goal.returns-in_err-row
 returns-in_err-row c f g ea eb =
     let p = err_from_is_err_and c.from_residual.result c.from_residual.ensures.1 in

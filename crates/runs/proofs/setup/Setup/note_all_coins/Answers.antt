@@ -3,12 +3,8 @@ use Rattle.std.proofs.lemmas.Result.{err_from_is_err_and}
 use Rattle.sheets.specs.Numbers.{numbers}
 use Rattle.runs.specs.Setups.{circle_in}
 use Rattle.runs.specs.Watching.{watches}
-use Rattle.runs.proofs.Coins.{Noted, noted_none, noted_next, noted-short, noted_all}
+use Rattle.runs.proofs.Coins.{Noted, noted_next, noted-short, noted_all}
 use Rattle.runs.proofs.setup.Setup.note_all_coins.Goals as goal
-
-pub loop-member-init : goal.loop-member-init
-loop-member-init c =
-    noted_none (circle_in c.args.self.now) (watches c.args.self.now.watched) (numbers c.args.coins.now) (vec_items c.args.seen.now)
 
 pub loop-member-preserved : goal.loop-member-preserved
 loop-member-preserved c =
