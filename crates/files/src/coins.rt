@@ -17,7 +17,8 @@ pub fn read_coins(heap: Global, bytes: &[u8]) -> Result<Vec<u32>, Refusal>
     Ok(split_coins(heap, bytes)?)
 }
 
-// The coins of some bytes. There is room for a coin of each word, since what is filtered does not tell its length.
+// The coins of some bytes. There is room for a coin of each word, since what is filtered does not tell its length. The
+// first links of the chain are those of `split_words`: no function can hand out an iterator over a closure.
 pub(crate) fn split_coins(heap: Global, bytes: &[u8]) -> Result<Vec<u32>, AllocError>
     ensures coins { IfOk result (λ v. v.items ≡ coins_of (words bytes.now)) }
     ensures in_field { IfOk result (λ v. T (below v.items)) }

@@ -3,7 +3,7 @@ use crate::row::Row;
 use sheets::Lists;
 
 // The figures that no line has taken yet, a row for each value, what is opened, and what the watched see, word after
-// word.
+// word. Rows are found by the numbers of their values, as the lines of a sheet name them.
 #[derive(Drop)]
 pub struct Progress<'a> {
     pub figures: Lists<'a>,

@@ -2,12 +2,9 @@ use Rattle.std.proofs.Common.{vec_items, ap, rules}
 use Rattle.files.specs.Circles.{figures_one, formed}
 use Rattle.files.specs.Lists.{lists}
 use Rattle.files.specs.Words.{words}
-use Rattle.files.proofs.EachSteps.{each_none, each_more, each_stop, each_left, each_all, one_more}
+use Rattle.files.proofs.EachSteps.{each_more, each_stop, each_left, each_all, one_more}
 use Rattle.files.proofs.Refused.{malformed_so}
 use Rattle.files.proofs.circle.read_lists.Goals as goal
-
-pub loop-init : goal.loop-init
-loop-init c = rw c.new-lists.ensures.items (each_none figures_one c.args.n c.args.bytes.now)
 
 pub returns-in_err-part : goal.returns-in_err-part
 returns-in_err-part c =

@@ -1,4 +1,4 @@
-use Rattle.std.proofs.Common.{List, [], ◌∷◌, ◌++◌, map, Ok, vec_items, Option, Result, sym, refl, ap, ◌∙◌, ap₂, rules}
+use Rattle.std.proofs.Common.{List, [], ◌∷◌, ◌++◌, Ok, vec_items, Option, Result, refl, ap, ◌∙◌, rules}
 use Rattle.sheets.specs.declared.refusal.Refusal.{Refusal}
 use Rattle.std.specs.Option.{option_map}
 use Rattle.files.specs.Circles.{Member, Given, member_one, gathered, formed}
@@ -7,22 +7,12 @@ use Rattle.files.specs.Held.{held}
 use Rattle.files.specs.Lists.{lists}
 use Rattle.files.specs.Words.{words}
 use Rattle.files.proofs.CoinSteps.{coins-below, lists_push}
-use Rattle.files.proofs.EachSteps.{each_none, each_more, each_stop, each_left, each_all, one_more, gathered_more}
+use Rattle.files.proofs.EachSteps.{each_more, each_stop, each_left, each_all, one_more, gathered_more}
 use Rattle.files.proofs.Refused.{malformed_so}
 use Rattle.files.proofs.inputs.gather.Goals as goal
 
 abbrev told : Option (List Member) → Result Given Refusal
 told o = formed (option_map gathered o)
-
-pub loop-init : goal.loop-init
-loop-init c = (
-  rw c.new-2.ensures.items tt,
-  (
-    [],
-    ap₂ (λ fs cs. record { figures = map vec_items fs; coins = map vec_items cs }) (sym c.new.ensures.items) (sym c.new-2.ensures.items),
-    each_none member_one c.args.n c.args.bytes.now,
-  ),
-)
 
 pub returns-in_err-figures-clause-answer : goal.returns-in_err-figures-clause-answer
 returns-in_err-figures-clause-answer c =
