@@ -20,9 +20,6 @@ module _ {X : Type 0} (one : List ℕ → Option (Got X)) (n : ℕ) where
   abbrev pub So : ℕ → List X → List ℕ → List ℕ → Type 0
   So i done rest bytes = prefixed done (each one (n - i) rest) ≡ each one n bytes
 
-  pub each_none : (bytes : List ℕ) → So 0 [] bytes bytes
-  each_none bytes = let e : n - 0 ≡ n = omega arith in rw e (prefixed_nil (each one n bytes))
-
   each-suc : (i : ℕ) (rest : List ℕ) → i < n → each one (n - i) rest ≡ option_and_then (λ g. option_map (λ xs. g.what ∷ xs) (each one (n - (i + 1)) g.rest)) (one rest)
   unfolding each
   each-suc i rest h = let e : n - i ≡ suc (n - (i + 1)) = omega arith in rw e
