@@ -71,14 +71,6 @@ module _ (z : Circle) (fits : Fits z) (c : ℕ → Bool) (ls : List Line) (coins
       (subst (λ (x : List Line). P z x coins₁ figures₁ figures'₁) el
       (subst (λ (x : Circle). P x ls₁ coins₁ figures₁ figures'₁) ez h))))
 
-  pub all_given : Given z₁ ls₁ (of coins₁) (of figures₁) (of figures'₁)
-  all_given =
-      subst (λ (x : Circle). Given x ls₁ (of coins₁) (of figures₁) (of figures'₁)) (sym ez)
-      (subst (λ (x : List Line). Given z x (of coins₁) (of figures₁) (of figures'₁)) (sym el)
-      (subst (λ (x : List (List ℕ)). Given z ls (of x) (of figures₁) (of figures'₁)) (sym ec)
-      (subst (λ (x : List (List ℕ)). Given z ls (of coins) (of x) (of figures'₁)) (sym ef)
-      (subst (λ (x : List (List ℕ)). Given z ls (of coins) (of figures) (of x)) (sym ef') given))))
-
   pub coupled : (places : List ℕ) (r : Result Couple Refusal) → length places ≡ 8 → z.t ≤ 7 → Holds places (mask (filter c (members z₁.n))) →
       LinesAs z₁ (higher z₁ places) ls₁ coins₁ (of figures₁) (of figures'₁) r → CoupledAs z c ls (of coins) (of figures) (of figures') r
   coupled places r eight few holds h =

@@ -3,10 +3,9 @@ use Rattle.std.proofs.Common.{◌≡◌, ℕ, zero, suc, ◌+◌, ◌-◌, ◌<�
 use Rattle.std.proofs.lemmas.List.{get_or-replicate}
 use Rattle.field.specs.Field.{p, ◌⊕◌, ◌⊗◌, neg, inv}
 use Rattle.field.proofs.Ring.{plain, ⊕-below}
-use Rattle.shares.specs.Circle.{members}
 use Rattle.runs.specs.Pairing.{linear_product, mask}
 use Rattle.runs.specs.Watching.{watches}
-use Rattle.runs.proofs.Left.{from, from_none, from_more, from_all, watches_at}
+use Rattle.runs.proofs.Left.{from, from_more, from_all, watches_at}
 use Rattle.masks.specs.Coefficients.{coefficient, Holds}
 
 at_start : (k b : ℕ) → k ⊗ b ≡ 0 ⊕ k ⊗ b
@@ -88,8 +87,3 @@ module _ (flags : List Bool) (n at : ℕ) (some : 0 < at) (le : at ≤ n) where
         small = λ j lj. subst (λ (x : ℕ). x < p) (sym (each j lj)) (⊕-below (get_or xs j 0) (k ⊗ coefficient xs j));
         holds = subst (λ (vs : List ℕ). Holds ys (mask vs)) (sym same) (subst (λ (x : ℕ). Holds ys (linear_product x 0 (mask ws))) (is ∙ ap (λ (w : ℕ). neg (inv w)) here) product);
       }
-
-pub masked_all : (c : ℕ → Bool) (n i : ℕ) (xs : List ℕ) → i ≡ 0 → Masked c n i xs → Holds xs (mask (filter c (members n)))
-masked_all c n i xs e h =
-    let same : from i n ≡ members n = ap (λ (k : ℕ). from k n) e ∙ from_none n in
-    subst (λ (vs : List ℕ). Holds xs (mask (filter c vs))) same h.holds

@@ -1,11 +1,10 @@
 -- Noting the coins that all members are about to draw, one member after the other.
 use Rattle.std.proofs.Common.{◌≡◌, ℕ, ◌+◌, ◌-◌, ◌<◌, ◌≤◌, Bool, true, false, cond, ◌||◌, List, [], ◌++◌, length, take, sym, refl, ap, ◌∙◌, subst, arith}
 use Rattle.std.proofs.lemmas.Bool.{lt-ltb, le-ltb}
-use Rattle.std.specs.List.{flat_map}
 use Rattle.shares.specs.Circle.{Circle, members}
 use Rattle.std.specs.List.{list_any}
 use Rattle.runs.specs.Steps.{lacks}
-use Rattle.runs.proofs.Left.{Left, from, from_more, from_all, left_more, left_all}
+use Rattle.runs.proofs.Left.{Left, from, from_more, from_all, left_more}
 
 -- a test of each member
 pub any_no : (test : ℕ → Bool) (k n : ℕ) → k < n → test (k + 1) ≡ false → list_any test (from (k + 1) n) ≡ list_any test (from k n)
@@ -50,6 +49,3 @@ module _ (z : Circle) (c : ℕ → Bool) (coins : ℕ → List ℕ) where
 
     pub noted-short : length (coins w) < z.t → list_any (lacks z coins) (members z.n) ≡ true
     noted-short short = noted-lacking before (w - 1) out (omega arith) (subst (λ (v : ℕ). length (coins v) < z.t) (sym same) short) h
-
-  pub noted_all : (before : List ℕ) (k : ℕ) (out : List ℕ) → z.n ≤ k → Noted before k out → (list_any (lacks z coins) (members z.n) ≡ false) × (out ≡ before ++ flat_map own (members z.n))
-  noted_all before k out le h = (sym h.lacking ∙ any_done (lacks z coins) k z.n le, left_all own before z.n k out le h.left)

@@ -1,15 +1,12 @@
 use Rattle.std.proofs.Common.{ap, ◌∙◌, arith}
 use Rattle.field.specs.Field.{neg}
 use Rattle.runs.specs.Watching.{watches}
-use Rattle.masks.proofs.Masking.{masked_none, masked_skip, masked_more, masked_all}
+use Rattle.masks.proofs.Masking.{masked_none, masked_skip, masked_more}
 use Rattle.masks.proofs.mask.Goals as goal
 use Rattle.masks.proofs.mask.Goals.{then-watched-member, else-watched-member}
 
 pub loop-member-init : goal.loop-member-init
 loop-member-init c = masked_none (watches c.args.watched.now) c.args.n c.args.n (omega arith)
-
-pub times_linear-coefficients-requires : goal.times_linear-coefficients-requires
-times_linear-coefficients-requires c = c.loop-member.invariant.small
 
 pub loop-member-preserved : goal.loop-member-preserved
 loop-member-preserved c =
@@ -22,6 +19,3 @@ loop-member-preserved c =
           w.if-watched-member.true (w.negative.ensures.0 ∙ ap neg w.inverse.ensures.0) w.times_linear-coefficients.ensures c.loop-member.invariant)
       | else-watched-member w ↦ rw w.coefficients-is (masked_skip flags c.args.n at (omega arith) (omega arith) xs w.if-watched-member.false c.loop-member.invariant)
     ]
-
-pub returns : goal.returns
-returns c = masked_all (watches c.args.watched.now) c.args.n c.loop-member.member c.loop-member.coefficients (omega arith) c.loop-member.invariant

@@ -1,21 +1,7 @@
-use Rattle.std.proofs.Common.{◌≡◌, ◌-◌, [], length, get_or, take, drop, refl, ap, ◌∙◌, inl, inr, arith}
+use Rattle.std.proofs.Common.{◌≡◌, ◌-◌, [], length, get_or, take, drop, refl, ap, ◌∙◌, arith}
 use Rattle.sheets.specs.Families.{family, of}
-use Rattle.sheets.proofs.Drawn.{of_nobody, of_slice, of-set_slice}
+use Rattle.sheets.proofs.Drawn.{of_slice, of-set_slice}
 use Rattle.sheets.proofs.drawing.draw.Goals as goal
-use Rattle.sheets.proofs.drawing.draw.Goals.{then-member-eq0-via-then-member-eq0, then-member-eq0-via-else-member-eq0+then-member-lists}
-
-pub returns-else-count-eq0 : goal.returns-else-count-eq0
-returns-else-count-eq0 c =
-    let slices = c.args.lists.now in
-    let w = c.args.member in
-    let empty : of (family slices) w ≡ [] =
-    elim c.then-member-eq0.branch [
-      | then-member-eq0-via-then-member-eq0 q ↦ of_nobody slices w (inl q.if-member-eq0.true)
-      | then-member-eq0-via-else-member-eq0+then-member-lists q ↦ of_nobody slices w (inr q.if-member-lists.true)
-    ] in
-    let short = ap length empty in
-    let some = c.if-count-eq0.false in
-    (omega arith, refl)
 
 pub returns-then-count-list : goal.returns-then-count-list
 returns-then-count-list c =

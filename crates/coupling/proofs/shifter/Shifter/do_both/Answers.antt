@@ -21,9 +21,6 @@ returns-in_err-do_line c s s' e h h' =
     (first_steady z c.args.line coins figures (vec_items c.args.first.now.held) (numbers c.args.second.now.figures) (vec_items c.args.second.now.held) c.requires)
     (c.in_err-do_line.ensures s.held h.same_rows))
 
-pub do_line-requires-2 : goal.do_line-requires-2
-do_line-requires-2 c = c.requires.drawable.good'
-
 pub returns : goal.returns
 returns c s s' e h h' =
     let z = circle_in c.args.self.now.setup in

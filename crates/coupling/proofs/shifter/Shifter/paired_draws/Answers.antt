@@ -42,9 +42,3 @@ loop-i-preserved c = (
       (c.secret-less.ensures.value s h) (c.secret-more.ensures.value s' h')
       (c.sum.ensures.0 ∙ ap (λ (x : ℕ). c.secret-more.result ⊕ x) c.negative.ensures.0) c.shift.ensures.places),
 )
-
-pub returns : goal.returns
-returns c = record {
-  places = λ s s' e h h' k lt d. c.loop-i.invariant.2 s s' e h h' k (omega (arith, c.args.self.now.setup.few)) d;
-  small = c.loop-i.invariant.1;
-}

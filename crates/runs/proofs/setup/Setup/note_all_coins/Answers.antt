@@ -3,7 +3,7 @@ use Rattle.std.proofs.lemmas.Result.{err_from_is_err_and}
 use Rattle.sheets.specs.Numbers.{numbers}
 use Rattle.runs.specs.Setups.{circle_in}
 use Rattle.runs.specs.Watching.{watches}
-use Rattle.runs.proofs.Coins.{Noted, noted_next, noted-short, noted_all}
+use Rattle.runs.proofs.Coins.{Noted, noted_next, noted-short}
 use Rattle.runs.proofs.setup.Setup.note_all_coins.Goals as goal
 
 pub loop-member-preserved : goal.loop-member-preserved
@@ -27,12 +27,3 @@ returns-in_err-note_coins c =
             (vec_items c.args.seen.now) c.loop-member.member (vec_items c.loop-member.seen) (omega arith) (omega arith) c.loop-member.invariant h.1,
       )
     ])
-
-pub returns-in_ok-note_coins : goal.returns-in_ok-note_coins
-returns-in_ok-note_coins c =
-    let z = circle_in c.args.self.now in
-    let h = c.in_ok-note_coins.ensures in
-    let at = c.loop-member.member in
-    noted_all z (watches c.args.self.now.watched) (numbers c.args.coins.now) (vec_items c.args.seen.now) at (vec_items c.note_coins.new.seen) (omega arith)
-    (noted_next z (watches c.args.self.now.watched) (numbers c.args.coins.now)
-    (vec_items c.args.seen.now) at (vec_items c.loop-member.seen) (omega arith) (omega arith) c.loop-member.invariant (vec_items c.note_coins.new.seen) h.0 h.1)
