@@ -2,7 +2,8 @@
 use crate::failure::Failure;
 use std::{env, fs};
 
-// All words after the program's own name. A word that is no text is wrong use.
+// All words after the program's own name. A word that is no text is wrong use: by `map_err`, since elsewhere the same error
+// is told as output that cannot be written.
 pub fn arguments(rt: &HostRuntime, usage: &'static str) -> Result<Vec<String>, Failure> {
     let args = env::args(rt).map_err(|_| Failure::Usage(usage))?;
     Ok(args.skip(1).collect(rt.alloc())?)

@@ -40,7 +40,8 @@ fn is_among(member: usize, numbers: &[u32]) -> bool
     numbers.iter().any(|number| *number as usize == member)
 }
 
-// The set of these members among 1 to n, or none if one is no member. Order and repetition don't matter.
+// The set of these members among 1 to n, or none if one is no member. Order and repetition don't matter. Fifteen flags
+// whatever n is, as a run takes them, so that a set asks for no memory.
 pub fn member_set(n: usize, numbers: &[u32]) -> Option<[bool; 15]>
     ensures { SetOf n numbers.now result }
 {

@@ -3,7 +3,8 @@ use crate::failure::Failure;
 use sheets::Refusal;
 use std::io::{BufWriter, Stdout, Write};
 
-// Standard output with a buffer. That there is no memory for the buffer is told as want of memory.
+// Standard output with a buffer. That there is no memory for the buffer is told as want of memory: by `map_err`, since
+// elsewhere the same error is told as output that cannot be written.
 pub fn output(rt: &HostRuntime) -> Result<BufWriter<Stdout>, Failure> {
     let out = BufWriter::new(rt.alloc(), rt.stdout());
     out.map_err(|_| Failure::Refused(Refusal::NoMemory))

@@ -13,7 +13,7 @@ use sheets::{Line, Lists};
 
 impl Shifter {
     // Each dealer's next coins in the first run, shifted by the mask times what it deals more in the second. Fifteen
-    // members draw at most seven each, so an array holds them and no line asks for memory.
+    // members draw at most seven each, so an array holds them and needs no memory of its own.
     pub(crate) fn paired_draws(
         &self,
         line: Line,

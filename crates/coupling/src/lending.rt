@@ -8,7 +8,7 @@ use runs::Setup;
 use sheets::{Line, Lists, Refusal};
 use std::alloc::Global;
 
-// The t coins of each dealer, and none of the others.
+// The t coins of each dealer, and none of the others. `Lists` looks them through, which is one compare for each coin.
 pub(crate) fn lend_draws<'a>(
     heap: Global,
     setup: &Setup,

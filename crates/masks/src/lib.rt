@@ -36,7 +36,7 @@ fn times_linear(coefficients: &[u32; 8], k: u32) -> [u32; 8]
     product
 }
 
-// Coins, place by place, each with d times the mask's coefficient of its place added.
+// Coins, place by place, each with d times the mask's coefficient of its place added. At most seven, so an array holds them.
 pub fn shift(d: u32, mask: &[u32; 8], coins: &[u32]) -> [u32; 7]
     requires { (length coins.now ≤ 7) × T (below coins.now) }
     ensures places { (i : ℕ) → i < length coins.now → slice_index result i ≡ slice_index_or coins.now i 0 ⊕ d ⊗ slice_index_or mask.now (i + 1) 0 }

@@ -15,8 +15,8 @@ use std::alloc::Global;
 
 // The coins of a run with other figures that are paired with the coins of a run with figures, so that the watched see
 // the same of both; or why there are none. Figures and coins are one list for each member, and who has no list has an
-// empty one. The watched are given by their numbers: order and repetition don't matter. The lists are lent as they are:
-// they may hold any words, and a struct that only this call takes would say no more.
+// empty one. The watched are given by their numbers: order and repetition don't matter. The lists are lent one
+// by one, since they may hold any words and the run of both takes them so: a struct would be taken apart again.
 pub fn pair(
     heap: Global,
     sheet: &Sheet,

@@ -22,9 +22,7 @@ impl Setup {
         requires { secret < p }
         ensures { DealtOut (circle_in self.now) (watches self.now.watched) member secret (numbers coins.old) (numbers coins.new) seen.old.items seen.new.items result }
     {
-        let Some(drawn) = coins.draw(member, self.t) else {
-            return Err(Refusal::NoCoins);
-        };
+        let drawn = coins.draw(member, self.t).ok_or(Refusal::NoCoins)?;
         let row = Row::deal(secret, drawn);
         self.note_shares(&row, seen)?;
         Ok(row)

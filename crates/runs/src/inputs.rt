@@ -19,9 +19,7 @@ impl Setup {
     ) -> Result<Row, Refusal>
         ensures { EnteredAs (circle_in self.now) (watches self.now.watched) member (numbers figures.old) (numbers figures.new) (numbers coins.old) (numbers coins.new) seen.old.items seen.new.items result }
     {
-        let Some(figure) = figures.draw(member, 1) else {
-            return Err(Refusal::NoFigure);
-        };
+        let figure = figures.draw(member, 1).ok_or(Refusal::NoFigure)?;
         self.note_own(member, figure, seen)?;
         self.note_coins(member, coins, seen)?;
         self.deal_out(member, figure[0], coins, seen)

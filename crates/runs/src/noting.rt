@@ -54,9 +54,9 @@ impl Setup {
     ) -> Result<(), Refusal>
         ensures { CoinsNoted (circle_in self.now) (watches self.now.watched) member (numbers coins.now) seen.old.items seen.new.items result }
     {
-        let Some((drawn, _)) = list_of(&coins.lists, member).split_at_checked(self.t) else {
-            return Err(Refusal::NoCoins);
-        };
+        let (drawn, _) = list_of(&coins.lists, member)
+            .split_at_checked(self.t)
+            .ok_or(Refusal::NoCoins)?;
         self.note_own(member, drawn, seen)
     }
 

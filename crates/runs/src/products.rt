@@ -39,7 +39,8 @@ impl Setup {
         ensures { (f g : ℕ → ℕ) → a.now ≡ row_of f → b.now ≡ row_of g → MultipliedAs (circle_in self.now) (watches self.now.watched) f g (numbers coins.old) (numbers coins.new) seen.old.items seen.new.items result }
     {
         let mut made = Row::zero();
-        // i is the place of one member in two rows and among the weights.
+        // By number: i is a member's place in two rows and, for the first 2t + 1 of them, among the weights, and its number
+        // is what deals. A chain would carry all four.
         for i in 0..self.n {
             let secret = field::product(a.shares()[i], b.shares()[i]);
             let row = self.deal_out(i as u32 + 1, secret, coins, seen)?;

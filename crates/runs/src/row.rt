@@ -24,6 +24,14 @@ impl Model for Row {
 }
 
 impl Row {
+    // The row of words below P.
+    pub fn new(words: [u32; 15]) -> Row
+        requires { T (below words) }
+        ensures { result ≡ words }
+    {
+        Row { shares: words }
+    }
+
     pub(crate) fn zero() -> Row
         ensures { result ≡ replicate 15 0 }
     {

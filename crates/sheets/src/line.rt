@@ -20,7 +20,7 @@ pub enum Line {
 
 impl Line {
     // The line in nine bytes: a kind and two numbers, of which the second is 0 where the kind has only one. Named as
-    // `Sheet::read` is and no TryFrom: the contract cites the format's definitions.
+    // `Sheet::read` is and no TryFrom: the contract cites the format's definitions. So is `write`.
     pub(crate) fn read(bytes: &[u8; 9]) -> Option<Line>
         ensures { result ≡ (if malformed bytes.now then None else Some (line_of bytes.now)) }
     {

@@ -33,7 +33,8 @@ impl Sheet {
     }
 }
 
-// The lines in parts of nine bytes each, or none if one is malformed.
+// The lines in parts of nine bytes each, or none if one is malformed. A reader's answer is taken apart by `let .. else`: what
+// is refused stands beside what is read.
 fn lines_of(heap: Global, parts: &[[u8; 9]]) -> Result<Vec<Line>, Refusal>
     ensures { LinesAs parts.now result }
 {
