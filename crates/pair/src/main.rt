@@ -34,6 +34,7 @@ fn play(rt: &HostRuntime, words: &[String]) -> Result<(), Failure> {
     print(rt, &sheet, &answer)
 }
 
+// No `Display` of the answer: how many coins are printed is the sheet's to say.
 fn print(rt: &HostRuntime, sheet: &Sheet, answer: &Pairing) -> Result<(), Failure> {
     match answer {
         Pairing::Coins(lists) => print_coins(rt, sheet, lists),

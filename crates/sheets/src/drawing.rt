@@ -11,11 +11,7 @@ pub fn draw<'a>(lists: &mut [&'a [u32]], member: u32, count: usize) -> Option<&'
         return if count == 0 { Some(&[]) } else { None };
     }
     let place = member as usize - 1;
-    let list = lists[place];
-    if count > list.len() {
-        return None;
-    }
-    let (drawn, rest) = list.split_at(count);
+    let (drawn, rest) = lists[place].split_at_checked(count)?;
     lists[place] = rest;
     Some(drawn)
 }

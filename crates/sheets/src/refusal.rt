@@ -9,40 +9,26 @@ use std::fmt;
 
 #[derive(Clone, Copy, PartialEq, Eq, Debug)]
 pub enum Refusal {
-    NoMemory,
-    Malformed,
-    BadShape,
-    OutOfRange,
-    NotMadeYet,
-    WrongAddress,
-    OtherSheet,
-    WrongLine,
-    SecondGreeting,
-    SecondShare,
-    NoFigure,
-    NoCoins,
-    TooManyInputs,
+    NoMemory = 0,
+    Malformed = 1,
+    BadShape = 2,
+    OutOfRange = 3,
+    NotMadeYet = 4,
+    WrongAddress = 5,
+    OtherSheet = 6,
+    WrongLine = 7,
+    SecondGreeting = 8,
+    SecondShare = 9,
+    NoFigure = 10,
+    NoCoins = 11,
+    TooManyInputs = 12,
 }
 
 impl Refusal {
     pub fn number(self) -> u32
         ensures { result ≡ number_of self }
     {
-        match self {
-            Refusal::NoMemory => 0,
-            Refusal::Malformed => 1,
-            Refusal::BadShape => 2,
-            Refusal::OutOfRange => 3,
-            Refusal::NotMadeYet => 4,
-            Refusal::WrongAddress => 5,
-            Refusal::OtherSheet => 6,
-            Refusal::WrongLine => 7,
-            Refusal::SecondGreeting => 8,
-            Refusal::SecondShare => 9,
-            Refusal::NoFigure => 10,
-            Refusal::NoCoins => 11,
-            Refusal::TooManyInputs => 12,
-        }
+        self as u32
     }
 
     // What is wrong, in words.
