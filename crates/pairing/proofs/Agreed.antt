@@ -90,7 +90,7 @@ test_off true true p t h = refl
 test_off true false p t h = let z : ◌≡◌ {A = ℕ} 0 1 = cc in absurd (omega arith)
 test_off false d p t h = absurd t
 
-given-same : (c : ℕ → Bool) (l : Line) (taken : ℕ → ℕ) (F F' : ℕ → List ℕ) → given_differs c l taken F F' ≡ None → (i : ℕ) → T (c i) → T (gives l i) → get_or (F i) 0 0 ≡ get_or (F' i) 0 0
+pub given-same : (c : ℕ → Bool) (l : Line) (taken : ℕ → ℕ) (F F' : ℕ → List ℕ) → given_differs c l taken F F' ≡ None → (i : ℕ) → T (c i) → T (gives l i) → get_or (F i) 0 0 ≡ get_or (F' i) 0 0
 given-same c (Input w) taken F F' h i watched t =
     let e : i ≡ w = eqb→eq i w t in
     let same : get_or (F w) 0 0 ≡ get_or (F' w) 0 0 =

@@ -1,5 +1,8 @@
 pub mod Agreed
 pub mod Differs
+pub mod Firsts
+pub mod Given
+pub mod Judged
 pub mod Judges
 pub mod Served
 pub mod Sets

@@ -1,4 +1,5 @@
 pub mod Answers
 pub mod Differing
 pub mod Lacking
+pub mod Laws
 pub mod Verdict

@@ -8,6 +8,8 @@ mod counting;
 mod differing;
 mod judging;
 mod lacking;
+mod laws;
 
 pub use answer::Pairing;
 pub use calling::pair;
+pub use laws::{judged_law, neither_law};

@@ -1,5 +1,5 @@
 -- Each answer is given if and only if its case holds and none that comes before it.
-use Rattle.std.specs.Prelude.{◌≡◌, ℕ, ◌<◌, Bool, T, ◌⊎◌, List, length, get_or, take, Some, None, ◌≢◌, slice_index, slice_index_or}
+use Rattle.std.specs.Prelude.{◌≡◌, ℕ, ◌<◌, Bool, T, ◌⊎◌, ◌↔◌, List, length, get_or, take, Some, None, ◌≢◌, slice_index, slice_index_or}
 use Rattle.shares.specs.Circle.{Circle, Fits}
 use Rattle.sheets.specs.Families.{of}
 use Rattle.sheets.specs.Lines.{figures_needed}
@@ -12,10 +12,6 @@ use Rattle.runs.specs.Seen.{how_many}
 use Rattle.runs.specs.Short.{runs_out}
 use Rattle.pairing.specs.Lacking.{runs_out_in_either}
 use Rattle.pairing.specs.Verdict.{among, refusal, verdict, Unpaired, Refused, Opened, Figure, Paired}
-
-pub record Iff (A B : Type 0) : Type 0 where
-  pub to : A → B
-  pub from : B → A
 
 -- one who is no member is watched, or more than t are
 abbrev pub Unpairable : Circle → List ℕ → Type 0
@@ -42,13 +38,13 @@ pub record FigureAt (c : ℕ → Bool) (ls : List Line) (figures figures' : ℕ 
   pub before : (j v : ℕ) → j < line → slice_index_or ls j (Open 0) ≡ Input v → T (c v) → given ls figures j v ≡ given ls figures' j v
 
 pub record Cases (z : Circle) (ls : List Line) (watched : List ℕ) (coins figures figures' : List (List ℕ)) : Type 0 where
-  pub unpaired : Iff (verdict z ls watched coins figures figures' ≡ Unpaired) (Unpairable z watched)
-  pub refused : (e : Refusal) → Iff (verdict z ls watched coins figures figures' ≡ Refused e) ((Unpairable z watched → ⊥) × (refusal z ls coins figures figures' ≡ Some e))
-  pub opened : (k : ℕ) → Iff (verdict z ls watched coins figures figures' ≡ Opened k)
+  pub unpaired : (verdict z ls watched coins figures figures' ≡ Unpaired) ↔ (Unpairable z watched)
+  pub refused : (e : Refusal) → (verdict z ls watched coins figures figures' ≡ Refused e) ↔ ((Unpairable z watched → ⊥) × (refusal z ls coins figures figures' ≡ Some e))
+  pub opened : (k : ℕ) → (verdict z ls watched coins figures figures' ≡ Opened k) ↔
       ((Unpairable z watched → ⊥) × (refusal z ls coins figures figures' ≡ None) × FirstAt k (result ls (of figures)) (result ls (of figures')))
-  pub figure : (w k : ℕ) → Iff (verdict z ls watched coins figures figures' ≡ Figure (record { member = w; place = k }))
+  pub figure : (w k : ℕ) → (verdict z ls watched coins figures figures' ≡ Figure (record { member = w; place = k })) ↔
       ((Unpairable z watched → ⊥) × (refusal z ls coins figures figures' ≡ None) × (result ls (of figures) ≡ result ls (of figures')) × FigureAt (among watched) ls (of figures) (of figures') w k)
-  pub paired : Iff (verdict z ls watched coins figures figures' ≡ Paired)
+  pub paired : (verdict z ls watched coins figures figures' ≡ Paired) ↔
       ((Unpairable z watched → ⊥) × (refusal z ls coins figures figures' ≡ None) × (result ls (of figures) ≡ result ls (of figures')) × Agree (among watched) ls (of figures) (of figures'))
 
 abbrev pub Judged : Type 0
@@ -59,4 +55,4 @@ Judged =
 abbrev pub Neither : Type 0
 Neither =
     (z : Circle) (ls : List Line) (figures figures' coins : ℕ → List ℕ) →
-    Iff (runs_out_in_either z ls figures figures' coins ≡ None) ((runs_out z ls figures coins ≡ None) × (runs_out z ls figures' coins ≡ None))
+    (runs_out_in_either z ls figures figures' coins ≡ None) ↔ ((runs_out z ls figures coins ≡ None) × (runs_out z ls figures' coins ≡ None))
