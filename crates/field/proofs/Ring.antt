@@ -20,6 +20,9 @@ pub ⊕-below : (a b : ℕ) → a ⊕ b < p
 pub ⊗-below : (a b : ℕ) → a ⊗ b < p
 ⊗-below a b = mod-lt (a * b) (lit< tt)
 
+pub neg-below : (a : ℕ) → neg a < p
+neg-below a = mod-lt (p - a % p) (lit< tt)
+
 -- the laws of a commutative ring
 pub ⊕_comm : (a b : ℕ) → a ⊕ b ≡ b ⊕ a
 ⊕_comm a b = ap (λ (x : ℕ). x % p) (add_comm a b)

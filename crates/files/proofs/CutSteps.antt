@@ -8,7 +8,7 @@ use Rattle.sheets.specs.declared.refusal.Refusal.TheVariants.{Malformed}
 use Rattle.files.specs.Circles.{cut_words, cut}
 use Rattle.files.proofs.WordSteps.{front}
 
-cut_short : (xs : List ℕ) → length xs < 4 → cut xs ≡ None
+pub cut_short : (xs : List ℕ) → length xs < 4 → cut xs ≡ None
 unfolding cut
 cut_short (a ∷ b ∷ c ∷ d ∷ xs) h = absurd (omega arith)
 cut_short xs h = refl

@@ -35,7 +35,7 @@ taken_at : (b : Bool) (xs : List ℕ) → (T b → xs ≡ []) → xs ≡ cond b 
 taken_at true xs h = h tt ∙ sym (ap (drop 1) (h tt))
 taken_at false xs h = refl
 
-after_empty : (lists : ℕ → List ℕ) (w : ℕ) → lists w ≡ [] → lists ≡ after w 1 lists
+pub after_empty : (lists : ℕ → List ℕ) (w : ℕ) → lists w ≡ [] → lists ≡ after w 1 lists
 after_empty lists w e = fun_ext λ (i : ℕ). taken_at (eqb i w) (lists i) (λ t. ap lists (eqb→eq i w t) ∙ e)
 
 pub taken_of : (w : ℕ) (before left : List (List ℕ)) (drawn : Option (Bor (List ℕ))) → DrawnFrom w 1 before left drawn → of left ≡ after w 1 (of before)

@@ -27,7 +27,7 @@ module _ (z : Circle) (c : ℕ → Bool) (coins : ℕ → List ℕ) where
     pub lacking : list_any (lacks z coins) (from k z.n) ≡ list_any (lacks z coins) (members z.n)
     pub left : Left own before z.n k out
 
-  noted_more : (before : List ℕ) (k : ℕ) (out out' : List ℕ) → k < z.n → z.t ≤ length (coins (k + 1)) → out' ≡ out ++ own (k + 1) → Noted before k out → Noted before (k + 1) out'
+  pub noted_more : (before : List ℕ) (k : ℕ) (out out' : List ℕ) → k < z.n → z.t ≤ length (coins (k + 1)) → out' ≡ out ++ own (k + 1) → Noted before k out → Noted before (k + 1) out'
   noted_more before k out out' lt le e h = record {
     lacking = any_no (lacks z coins) k z.n lt (le-ltb (length (coins (k + 1))) z.t le) ∙ h.lacking;
     left = left_more own before z.n k out out' (own (k + 1)) lt refl e h.left;

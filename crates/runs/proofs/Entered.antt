@@ -25,7 +25,7 @@ has-enough z w figures coins one enough =
 joined_up : (seen a b d : List ℕ) → ((seen ++ a) ++ b) ++ d ≡ seen ++ (a ++ ((b ++ []) ++ ((d ++ []) ++ [])))
 joined_up seen a b d = simp (append_assoc, append-nil)
 
-entered : (z : Circle) (c : ℕ → Bool) (w v : ℕ) (figures figures' coins coins' : ℕ → List ℕ) (figure seen seen₁ seen₂ seen₃ row : List ℕ) →
+pub entered : (z : Circle) (c : ℕ → Bool) (w v : ℕ) (figures figures' coins coins' : ℕ → List ℕ) (figure seen seen₁ seen₂ seen₃ row : List ℕ) →
     1 ≤ length (figures w) → figure ≡ take 1 (figures w) → v ≡ get_or figure 0 0 → figures' ≡ after w 1 figures →
     seen₁ ≡ seen ++ cond (c w) figure [] → seen₂ ≡ seen₁ ++ cond (c w) (take z.t (coins w)) [] →
     Dealing z c w v coins coins' seen₂ seen₃ row → Entered z c w figures figures' coins coins' seen seen₃ row

@@ -1,8 +1,13 @@
 -- The loop over the lines: what was done, followed by what is left, is the whole.
-use Rattle.std.proofs.Common.{◌≡◌, ℕ, ◌+◌, ◌<◌, ◌≤◌, Bool, T, List, [], ◌++◌, map, length, get_or, drop, Some, None, Option, sym, refl, ap, ◌∙◌, subst, subst₂}
+use Rattle.std.proofs.Common.{◌≡◌, ℕ, ◌+◌, ◌<◌, ◌≤◌, Bool, T, ltb, List, [], ◌∷◌, ◌++◌, map, length, get_or, drop, Some, None, Option, sym, refl, ap, ◌∙◌, subst, subst₂, lt→ltb}
+use Rattle.std.specs.List.{AllByRecursion as All}
 use Rattle.std.proofs.lemmas.List.{append_assoc, append-nil, length-append, length-map, at_drop_more, at_drop_all}
-use Rattle.field.proofs.Below.{both_parts}
-use Rattle.shares.specs.Circle.{Circle}
+use Rattle.field.specs.Field.{p, below}
+use Rattle.field.proofs.Below.{both_parts, both_from}
+use Rattle.field.proofs.Ring.{⊕-below, ⊗-below}
+use Rattle.shares.specs.Circle.{Circle, members}
+use Rattle.shares.proofs.Dots.{dot-below}
+use Rattle.shares.proofs.Values.{value-below}
 use Rattle.sheets.specs.Lines.{made, good, good_line}
 use Rattle.sheets.specs.Meaning.{figures_after}
 use Rattle.sheets.specs.declared.line.Line.{Line}
@@ -10,12 +15,34 @@ use Rattle.sheets.specs.declared.line.Line.TheVariants.{Input, Sum, Times, Produ
 use Rattle.sheets.specs.declared.refusal.Refusal.{Refusal}
 use Rattle.runs.specs.Outcome.{AllDone}
 use Rattle.runs.specs.Row.{row_of}
-use Rattle.runs.specs.Run.{State, after, shares, opened, opened_by, opens, coins_after}
+use Rattle.runs.specs.Run.{State, after, shares, share, opened, opened_by, opens, coins_after}
 use Rattle.runs.specs.Seen.{seen_at, seen_by, sees}
 use Rattle.runs.specs.Short.{short_at, or_else, runs_out}
 use Rattle.runs.specs.Steps.{in_state, Done}
 
 -- every share is below p
+abbrev pub Small : (ℕ → ℕ) → Type 0
+Small f = (j : ℕ) → f j < p
+
+pub shares-small : (z : Circle) (l : Line) (s : State) → All Small (shares z l s)
+shares-small z (Input w) s = ((λ j. value-below _ j), tt)
+shares-small z (Sum a e) s = ((λ j. ⊕-below (share s a j) (share s e j)), tt)
+shares-small z (Times k a) s = ((λ j. ⊗-below k (share s a j)), tt)
+shares-small z (Product a e) s = ((λ j. dot-below _ _), tt)
+shares-small z (Open a) s = tt
+
+map-small : (f : ℕ → ℕ) (xs : List ℕ) → Small f → T (below (map f xs))
+map-small f [] h = tt
+map-small f (x ∷ xs) h = both_from (ltb (f x) p) (below (map f xs)) (lt→ltb (f x) p (h x)) (map-small f xs h)
+
+row_small : (f : ℕ → ℕ) → Small f → T (below (row_of f))
+unfolding row_of
+row_small f h = map-small f (members 15) h
+
+pub rows_small : (values : List (ℕ → ℕ)) → All Small values → All (λ row. T (below row)) (map row_of values)
+rows_small [] h = tt
+rows_small (f ∷ values) h = (row_small f h.0, rows_small values h.1)
+
 -- how many values there are after a line
 pub made-is : (z : Circle) (l : Line) (s : State) → length (s.held ++ shares z l s) ≡ made l (length s.held)
 made-is z (Input w) s = length-append s.held (shares z (Input w) s)

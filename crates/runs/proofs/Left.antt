@@ -1,7 +1,7 @@
 -- Loops over members 1 to n that append something for each: what was appended, followed by what is left, is the whole.
-use Rattle.std.proofs.Common.{◌≡◌, ℕ, zero, suc, ◌+◌, ◌-◌, ◌<◌, ◌≤◌, Bool, true, false, cond, List, [], ◌∷◌, ◌++◌, map, get_or, filter, sym, refl, ap, ◌∙◌, add-one, arith}
+use Rattle.std.proofs.Common.{◌≡◌, ℕ, zero, suc, ◌+◌, ◌-◌, ◌<◌, ◌≤◌, Bool, true, false, cond, List, [], ◌∷◌, ◌++◌, map, get_or, filter, sym, refl, ap, ◌∙◌, add-one, arith, ◌⊎◌, length, inl, inr}
 use Rattle.std.specs.List.{range_with_len, flat_map}
-use Rattle.std.proofs.lemmas.List.{append_assoc, append-nil}
+use Rattle.std.proofs.lemmas.List.{append_assoc, append-nil, get_or_past}
 use Rattle.shares.specs.Circle.{members}
 use Rattle.runs.specs.Watching.{watches}
 
@@ -52,6 +52,11 @@ kept_is c f (x ∷ xs) = one (c x) f x (filter c xs) ∙ ap (λ (ys : List ℕ).
 
 pub watches_at : (flags : List Bool) (k : ℕ) → watches flags (k + 1) ≡ get_or flags k false
 watches_at flags k = ap (watches flags) (add-one k)
+
+pub watches_nobody : (flags : List Bool) (w : ℕ) → length flags ≡ 15 → (w ≡ 0) ⊎ (15 < w) → false ≡ watches flags w
+watches_nobody flags zero len h = refl
+watches_nobody flags (suc k) len (inl e) = absurd (omega arith)
+watches_nobody flags (suc k) len (inr lt) = sym (get_or_past flags k false (omega arith))
 
 pub watches-member : (flags : List Bool) (w : ℕ) → (w ≡ 0 → ⊥) → get_or flags (w - 1) false ≡ watches flags w
 watches-member flags zero ne = absurd (ne refl)

@@ -1,10 +1,14 @@
 -- One list for each member: what a change of one list does to all.
-use Rattle.std.proofs.Common.{◌≡◌, ℕ, zero, suc, ◌-◌, ◌<◌, ◌≤◌, eqb, ◌⊎◌, List, [], ◌∷◌, length, get_or, drop, set, sym, refl, ap, ◌∙◌, inl, inr, ⊎_elim, arith, Bor}
+use Rattle.std.proofs.Common.{◌≡◌, ℕ, zero, suc, ◌-◌, ◌<◌, ◌≤◌, Bool, true, false, cond, eqb, ◌⊎◌, List, [], ◌∷◌, length, get_or, drop, set, sym, refl, ap, ◌∙◌, inl, inr, ⊎_elim, arith, Bor}
 use mathlib.Core.Path.{fun_ext}
 use Rattle.std.proofs.lemmas.List.{map-set, length-map, get_or-set_same, get_or-set_other, get_or_past}
 use Rattle.std.proofs.lemmas.Bool.{eq-eqb, ne_eqb, cases_eq, cond-true, cond-false}
 use Rattle.sheets.specs.Drawing.{after}
 use Rattle.sheets.specs.Families.{family, of}
+
+cond_same : (b : Bool) (xs : List ℕ) → cond b (drop 0 xs) xs ≡ xs
+cond_same true xs = refl
+cond_same false xs = refl
 
 -- the list at a place, whatever the default holds
 pub at_place : (slices : List (Bor (List ℕ))) (k : ℕ) (d : Bor (List ℕ)) → d.now ≡ [] → (get_or slices k d).now ≡ get_or (family slices) k []
@@ -43,6 +47,10 @@ of-set lists zero ys count ne le e = absurd (ne refl)
 of-set lists (suc k) ys count ne le e =
     let back : suc k - 1 ≡ k = omega arith in
     ap (λ (i : ℕ). of (set lists i ys)) back ∙ fun_ext (of-set_at lists k ys count (omega arith) e)
+
+-- no numbers drawn from a list change nothing
+pub after_none : (w : ℕ) (lists : ℕ → List ℕ) → lists ≡ after w 0 lists
+after_none w lists = fun_ext (λ (i : ℕ). sym (cond_same (eqb i w) (lists i)))
 
 pub of_nobody : (slices : List (Bor (List ℕ))) (w : ℕ) → (w ≡ 0) ⊎ (length slices < w) → of (family slices) w ≡ []
 of_nobody slices w (inl e) = ap (of (family slices)) e

@@ -48,6 +48,25 @@ framed_verdict bs count h =
 pub all_parts : (bs : List ℕ) (count : ℕ) → Framed bs count → {parts : List (List ℕ)} → parts ≡ nines (length (tail_of bs) / 9) (tail_of bs) → parts ≡ nines count (tail_of bs)
 all_parts bs count h e = e ∙ ap (λ (k : ℕ). nines k (tail_of bs)) (omega (arith, h.long))
 
+-- what the reader of one line answered
+pub none_read : (b : Bool) (l : Line) → None ≡ cond b None (Some l) → b ≡ true
+none_read true l e = refl
+none_read false l e = let z : ◌≡◌ {A = ℕ} 0 1 = cc in absurd (omega arith)
+
+pub some_read : (b : Bool) (l r : Line) → Some r ≡ cond b None (Some l) → (b ≡ false) × (r ≡ l)
+some_read true l r e = let z : ◌≡◌ {A = ℕ} 0 1 = cc in absurd (omega arith)
+some_read false l r e = (refl, cc)
+
+pub verdict-malformed : (bs : List ℕ) (count : ℕ) → Framed bs count → list_any malformed (nines count (tail_of bs)) ≡ true → verdict bs ≡ Some Malformed
+verdict-malformed bs count h e =
+    framed_verdict bs count h
+    ∙ ap (λ (x : Bool). by_tests x (bad_shape (members_of bs) (threshold_of bs) count) (verdict_on (members_of bs) (map line_of (nines count (tail_of bs))))) e
+
+pub verdict_misshapen : (bs : List ℕ) (count : ℕ) → Framed bs count → list_any malformed (nines count (tail_of bs)) ≡ false → bad_shape (members_of bs) (threshold_of bs) count ≡ true → verdict bs ≡ Some BadShape
+verdict_misshapen bs count h e f =
+    framed_verdict bs count h
+    ∙ ap₂ (λ (x y : Bool). by_tests x y (verdict_on (members_of bs) (map line_of (nines count (tail_of bs))))) e f
+
 pub verdict_lines : (bs : List ℕ) (count : ℕ) → Framed bs count → list_any malformed (nines count (tail_of bs)) ≡ false → bad_shape (members_of bs) (threshold_of bs) count ≡ false →
     (lines : List Line) → lines ≡ map line_of (nines count (tail_of bs)) → verdict bs ≡ verdict_on (members_of bs) lines
 verdict_lines bs count h e f lines same =
