@@ -7,7 +7,7 @@ ghost use Rattle.files.specs.Lists.{lists as lists_of};
 
 use crate::parts::{check_end, cut};
 use crate::words::split_words;
-use sheets::{Refusal, are_all_below};
+use sheets::{Refusal, each_below};
 use std::alloc::Global;
 
 // The figures of members 1 to n.
@@ -16,7 +16,7 @@ pub fn read_circle_figures(heap: Global, n: usize, bytes: &[u8]) -> Result<Vec<V
     ensures in_field { IfOk result (λ v. T (all_below (lists_of v))) }
 {
     let figures = read_lists(heap, n, bytes)?;
-    if !are_all_below(&figures) {
+    if !each_below(&figures) {
         return Err(Refusal::OutOfRange);
     }
     Ok(figures)

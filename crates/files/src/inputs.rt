@@ -10,7 +10,7 @@ ghost use Rattle.std.specs.Option.{option_map};
 use crate::coins::split_coins;
 use crate::parts::{check_end, cut};
 use crate::words::split_words;
-use sheets::{Refusal, are_all_below};
+use sheets::{Refusal, each_below};
 use std::alloc::Global;
 
 // Member i's figures and coins are at place i - 1, in lists of their own, since a run takes the two apart.
@@ -26,7 +26,7 @@ pub fn read_circle_inputs(heap: Global, n: usize, bytes: &[u8]) -> Result<Circle
     ensures in_field { IfOk result (λ v. T (all_below (lists v.figures)) × T (all_below (lists v.coins))) }
 {
     let inputs = gather(heap, n, bytes)?;
-    if !are_all_below(&inputs.figures) {
+    if !each_below(&inputs.figures) {
         return Err(Refusal::OutOfRange);
     }
     Ok(inputs)

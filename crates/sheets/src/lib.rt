@@ -20,6 +20,6 @@ pub use laws::{judgement_law, reread_law, rewritten_law};
 pub use line::Line;
 pub use lists::Lists;
 pub use needs::figures_in;
-pub use numbers::{are_all_below, are_below};
+pub use numbers::{are_all_below, are_below, each_below};
 pub use refusal::Refusal;
 pub use sheet::Sheet;

@@ -1,9 +1,10 @@
 // Lists that were looked through once, and what lines take from them.
-ghost use Rattle.std.specs.Prelude.{T, IfSome};
-ghost use Rattle.field.specs.Field.{below};
+ghost use Rattle.std.specs.Prelude.{◌≡◌, T, IfOk, IfSome, IsOkUnless};
+ghost use Rattle.field.specs.Field.{below, all_below};
 ghost use Rattle.sheets.specs.Drawing.{DrawnFrom};
 ghost use Rattle.sheets.specs.Families.{family};
 ghost use Rattle.sheets.specs.Numbers.{lists_in, ListsAs};
+ghost use Rattle.sheets.specs.declared.refusal.Refusal.TheVariants.{NoMemory};
 
 use crate::drawing::draw;
 use crate::lists::Lists;
@@ -19,6 +20,15 @@ impl<'a> Lists<'a> {
         if !are_all_below(lists) {
             return Err(Refusal::OutOfRange);
         }
+        Lists::known(heap, lists)
+    }
+
+    // The lists, all of whose numbers are known to lie below P, so that none is looked through.
+    pub fn known(heap: Global, lists: &[&'a [u32]]) -> Result<Lists<'a>, Refusal>
+        requires { T (all_below (family lists.now)) }
+        ensures lists { IfOk result (λ l. lists_in l ≡ family lists.now) }
+        ensures refused { IsOkUnless result NoMemory }
+    {
         Ok(Lists {
             lists: Vec::from_slice(heap, lists)?,
         })

@@ -3,7 +3,7 @@ use Rattle.std.proofs.lemmas.Iterator.{YieldsList-from_slice}
 use Rattle.std.proofs.lemmas.Iterator.Search.{all_from_yields_List}
 use Rattle.std.proofs.lemmas.List.Folds.{list_all-map}
 use Rattle.field.specs.Field.{below}
-use Rattle.sheets.proofs.numbers.are_all_below.Goals as goal
+use Rattle.sheets.proofs.numbers.each_below.Goals as goal
 
 pub returns : goal.returns
 returns g c =
