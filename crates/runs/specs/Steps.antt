@@ -1,13 +1,13 @@
 -- What the parts of a line do, each in terms of the run.
 use Rattle.std.specs.Prelude.{◌≡◌, ℕ, ◌<◌, ◌≤◌, Bool, true, false, cond, T, ◌⊎◌, List, [], ◌∷◌, ◌++◌, map, length, take, Some, None, Ok, Err, Result, nat_lt, slice_index}
-use Rattle.std.specs.List.{flat_map}
+use Rattle.std.specs.List.{flat_map, list_any, AllByRecursion}
 use Rattle.field.specs.Field.{◌⊗◌, below}
 use Rattle.shares.specs.Circle.{Circle, m, members}
 use Rattle.shares.specs.Polynomial.{share_of}
 use Rattle.shares.specs.Weights.{joined}
 use Rattle.sheets.specs.Drawing.{after as after_drawing}
+use Rattle.sheets.specs.Lines.{good_line}
 use Rattle.sheets.specs.Meaning.{figures_after}
-use Rattle.std.specs.List.{list_any}
 use Rattle.sheets.specs.declared.line.Line.{Line}
 use Rattle.sheets.specs.declared.line.Line.TheVariants.{Input, Product}
 use Rattle.sheets.specs.declared.refusal.Refusal.{Refusal}
@@ -103,3 +103,10 @@ pub record Done (z : Circle) (c : ℕ → Bool) (l : Line) (s : State) (rows' : 
 abbrev pub DoneAs : Circle → (ℕ → Bool) → Line → State → List (List ℕ) → (ℕ → List ℕ) → (ℕ → List ℕ) → List ℕ → List ℕ → List ℕ → List ℕ → Result (Unit {0}) Refusal → Type 0
 DoneAs z c l s rows' figures' coins' shown shown' seen seen' (Ok u) = Done z c l s rows' figures' coins' shown shown' seen seen'
 DoneAs z c l s rows' figures' coins' shown shown' seen seen' (Err e) = (e ≡ NoMemory) ⊎ (short_at z l s.figures s.coins ≡ Some e)
+
+-- what a line asks of bare rows and lists
+pub record Ready (z : Circle) (l : Line) (rows : List (List ℕ)) (figures coins : ℕ → List ℕ) : Type 0 where
+  pub good : T (good_line z.n (length rows) l)
+  pub small : AllByRecursion (λ row. T (below row)) rows
+  pub figures_small : Reduced figures
+  pub coins_small : Reduced coins

@@ -1,14 +1,14 @@
 // Dealing a number to all members.
-ghost use Rattle.std.specs.Prelude.{◌≡◌, ◌<◌};
-ghost use Rattle.field.specs.Field.{p};
+ghost use Rattle.std.specs.Prelude.{◌≡◌, ◌<◌, T};
+ghost use Rattle.field.specs.Field.{p, all_below};
 ghost use Rattle.runs.specs.Setups.{circle_in};
 ghost use Rattle.runs.specs.Steps.{DealtOut};
 ghost use Rattle.runs.specs.Watching.{watches};
-ghost use Rattle.sheets.specs.Numbers.{numbers};
+ghost use Rattle.sheets.specs.Families.{family, of};
 
 use crate::row::Row;
 use crate::setup::Setup;
-use sheets::{Lists, Refusal};
+use sheets::{Refusal, draw};
 
 impl Setup {
     // The shares of a member's number, under its next t coins.
@@ -16,13 +16,14 @@ impl Setup {
         &self,
         member: u32,
         secret: u32,
-        coins: &mut Lists,
+        coins: &mut [&[u32]],
         seen: &mut Vec<u32>,
     ) -> Result<Row, Refusal>
-        requires { secret < p }
-        ensures { DealtOut (circle_in self.now) (watches self.now.watched) member secret (numbers coins.old) (numbers coins.new) seen.old.items seen.new.items result }
+        requires { (secret < p) × T (all_below (family coins.old)) }
+        ensures dealt { DealtOut (circle_in self.now) (watches self.now.watched) member secret (of (family coins.old)) (of (family coins.new)) seen.old.items seen.new.items result }
+        ensures small { T (all_below (family coins.new)) }
     {
-        let drawn = coins.draw(member, self.t).ok_or(Refusal::NoCoins)?;
+        let drawn = draw(coins, member, self.t).ok_or(Refusal::NoCoins)?;
         let row = Row::deal(secret, drawn);
         self.note_shares(&row, seen)?;
         Ok(row)

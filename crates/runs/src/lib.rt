@@ -1,6 +1,7 @@
 // A sheet done on shares, for all members in memory.
 #![tactic(auto)]
 
+mod bare;
 mod dealing;
 mod doing;
 mod inputs;
@@ -16,6 +17,7 @@ mod row;
 mod running;
 mod setup;
 
+pub use bare::do_line;
 pub use laws::{alike_law, enough_law, fewer_law, right_law};
 pub use member_lists::list_of;
 pub use outcome::Outcome;

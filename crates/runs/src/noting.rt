@@ -4,12 +4,12 @@ ghost use Rattle.runs.specs.Row.{picked, Appended};
 ghost use Rattle.runs.specs.Setups.{circle_in};
 ghost use Rattle.runs.specs.Steps.{CoinsNoted, AllCoinsNoted};
 ghost use Rattle.runs.specs.Watching.{watches};
-ghost use Rattle.sheets.specs.Numbers.{numbers};
+ghost use Rattle.sheets.specs.Families.{family, of};
 
 use crate::member_lists::list_of;
 use crate::row::Row;
 use crate::setup::Setup;
-use sheets::{Lists, Refusal};
+use sheets::Refusal;
 
 impl Setup {
     fn is_watched(&self, member: u32) -> bool
@@ -49,20 +49,24 @@ impl Setup {
     pub(crate) fn note_coins(
         &self,
         member: u32,
-        coins: &Lists,
+        coins: &[&[u32]],
         seen: &mut Vec<u32>,
     ) -> Result<(), Refusal>
-        ensures { CoinsNoted (circle_in self.now) (watches self.now.watched) member (numbers coins.now) seen.old.items seen.new.items result }
+        ensures { CoinsNoted (circle_in self.now) (watches self.now.watched) member (of (family coins.now)) seen.old.items seen.new.items result }
     {
-        let (drawn, _) = list_of(&coins.lists, member)
+        let (drawn, _) = list_of(coins, member)
             .split_at_checked(self.t)
             .ok_or(Refusal::NoCoins)?;
         self.note_own(member, drawn, seen)
     }
 
     // The coins that all members are about to draw.
-    pub(crate) fn note_all_coins(&self, coins: &Lists, seen: &mut Vec<u32>) -> Result<(), Refusal>
-        ensures { AllCoinsNoted (circle_in self.now) (watches self.now.watched) (numbers coins.now) seen.old.items seen.new.items result }
+    pub(crate) fn note_all_coins(
+        &self,
+        coins: &[&[u32]],
+        seen: &mut Vec<u32>,
+    ) -> Result<(), Refusal>
+        ensures { AllCoinsNoted (circle_in self.now) (watches self.now.watched) (of (family coins.now)) seen.old.items seen.new.items result }
     {
         for member in 1..=self.n {
             self.note_coins(member as u32, coins, seen)?;

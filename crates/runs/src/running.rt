@@ -11,7 +11,7 @@ ghost use Rattle.sheets.specs.Sheets.{circle_of, lines_in};
 use crate::outcome::Outcome;
 use crate::progress::Progress;
 use crate::setup::Setup;
-use sheets::{Line, Lists, Refusal, Sheet};
+use sheets::{Line, Lists, Refusal, Sheet, are_all_below};
 use std::alloc::Global;
 
 // What the sheet opens of figures and coins, one list for each member, and what the watched see of it. Member i's list
@@ -25,8 +25,12 @@ pub fn run(
 ) -> Result<Outcome, Refusal>
     ensures { RunAs (circle_of sheet.now) (watches watched.now) (lines_in sheet.now) (of (family figures.now)) (of (family coins.now)) result }
 {
-    let figures = Lists::new(heap, figures)?;
-    let mut coins = Lists::new(heap, coins)?;
+    // Both are looked through before memory is asked for, so that want of it hides no number that is too large.
+    if !are_all_below(figures) || !are_all_below(coins) {
+        return Err(Refusal::OutOfRange);
+    }
+    let figures = Lists::known(heap, figures)?;
+    let mut coins = Lists::known(heap, coins)?;
     let setup = Setup::new(sheet, watched);
     run_lines(heap, &setup, sheet.lines(), figures, &mut coins)
 }
