@@ -9,9 +9,7 @@ use Rattle.shares.specs.Polynomial.{scaled}
 use Rattle.sheets.specs.Families.{of}
 use Rattle.sheets.proofs.Checked.{below-from-reduced}
 use Rattle.sheets.specs.Lines.{good_line, gives, deals}
-use Rattle.sheets.specs.Numbers.{ListsAs}
 use Rattle.sheets.specs.declared.line.Line.{Line}
-use Rattle.sheets.specs.declared.lists.Lists.{Lists}
 use Rattle.sheets.specs.declared.line.Line.TheVariants.{Input, Sum, Times, Product, Open}
 use Rattle.sheets.specs.declared.refusal.Refusal.{Refusal}
 use Rattle.sheets.specs.declared.refusal.Refusal.TheVariants.{NoMemory}
@@ -22,9 +20,9 @@ use Rattle.runs.specs.Short.{short_at}
 use Rattle.runs.proofs.Enough.{short-from}
 use Rattle.runs.proofs.Pairs.{secret-coins, shares-same}
 use Rattle.runs.proofs.Shifts.{difference, length-shifted}
-use Rattle.runs.specs.Steps.{in_state, Done, DoneAs}
+use Rattle.runs.specs.Steps.{Reduced, in_state, Done, DoneAs}
 use Rattle.coupling.specs.Growing.{Grown}
-use Rattle.coupling.specs.Sides.{Side, DrawnAs, Lent, LentAs}
+use Rattle.coupling.specs.Sides.{Side, DrawnAs, LentAs}
 use Rattle.coupling.specs.Steps.{Steady, BothAs}
 use Rattle.coupling.proofs.Draws.{below_at}
 
@@ -53,22 +51,19 @@ pub draw_coins : (z : Circle) (g : List ℕ) (l : Line) (s s' : State) (coins : 
 draw_coins z g l s s' coins i = ap (λ (v : ℕ). shifted (scaled (difference (secret l s i) v) g) (drawn z s i)) (secret-coins l s' coins i)
 
 -- lists that are all below p
-lent_below : (z : Circle) (l : Line) (draws lent : List (List ℕ)) → T (all_below draws) → Lent z l draws lent → (k : ℕ) → T (below (get_or lent k []))
-lent_below z l draws lent small h k =
+lent_below : (z : Circle) (l : Line) (draws lent : List (List ℕ)) → length lent ≡ 15 → T (all_below draws) → LentAs z l draws lent → (k : ℕ) → T (below (get_or lent k []))
+lent_below z l draws lent len small h k =
     ⊎_elim
-    (λ lt. subst (λ (xs : List ℕ). T (below xs)) (sym (h.each k lt)) (below-take (cond (deals z l (k + 1)) z.t 0) (get_or draws k []) (below_at draws k small)))
-    (λ le. subst (λ (xs : List ℕ). T (below xs)) (sym (get_or_past lent k [] (omega (arith, h.as_many)))) tt)
+    (λ lt. subst (λ (xs : List ℕ). T (below xs)) (sym (h k lt)) (below-take (cond (deals z l (k + 1)) z.t 0) (get_or draws k []) (below_at draws k small)))
+    (λ le. subst (λ (xs : List ℕ). T (below xs)) (sym (get_or_past lent k [] (omega arith))) tt)
     (cases_lt k 15)
 
-lent_reduced : (z : Circle) (l : Line) (draws lent : List (List ℕ)) → T (all_below draws) → Lent z l draws lent → (i : ℕ) → T (below (of lent i))
-lent_reduced z l draws lent small h zero = tt
-lent_reduced z l draws lent small h (suc k) = lent_below z l draws lent small h k
+pub lent_reduced : (z : Circle) (l : Line) (draws lent : List (List ℕ)) → length lent ≡ 15 → T (all_below draws) → LentAs z l draws lent → Reduced (of lent)
+lent_reduced z l draws lent len small h zero = tt
+lent_reduced z l draws lent len small h (suc k) = lent_below z l draws lent len small h k
 
-pub lent_as : (z : Circle) (l : Line) (draws lent : List (List ℕ)) (r : Result Lists Refusal) → T (all_below draws) → Lent z l draws lent → ListsAs lent r → LentAs z l draws r
-lent_as z l draws lent (Ok lists) small h e = subst (Lent z l draws) (sym e.0) h
-lent_as z l draws lent (Err x) small h (inl memory) = memory
-lent_as z l draws lent (Err x) small h (inr large) =
-    absurd (subst (λ (b : Bool). T b) large.1 (below-from-reduced lent (lent_reduced z l draws lent small h)))
+pub lent_small : (z : Circle) (l : Line) (draws lent : List (List ℕ)) → length lent ≡ 15 → T (all_below draws) → LentAs z l draws lent → T (all_below lent)
+lent_small z l draws lent len small h = below-from-reduced lent (lent_reduced z l draws lent len small h)
 
 -- a refusal of a line that can be done is for want of memory
 pub only_memory : (e : Refusal) (o : Option Refusal) → o ≡ None → (e ≡ NoMemory) ⊎ (o ≡ Some e) → e ≡ NoMemory
@@ -90,15 +85,15 @@ at_dealer : (b : Bool) (D : List ℕ) → T b → cond b D [] ≡ D
 at_dealer true D d = refl
 at_dealer false D d = absurd d
 
-module _ (z : Circle) (g : List ℕ) (l : Line) (s s' : State) (v : ℕ) (good : T (good_line z.n v l)) (few : z.n ≤ 15) (draws lent : List (List ℕ)) (is : Lent z l draws lent) (drew : DrawnAs z g l s s' draws) where
+module _ (z : Circle) (g : List ℕ) (l : Line) (s s' : State) (v : ℕ) (good : T (good_line z.n v l)) (few : z.n ≤ 15) (draws lent : List (List ℕ)) (len : length lent ≡ 15) (is : LentAs z l draws lent) (drew : DrawnAs z g l s s' draws) where
   abbrev D : ℕ → List ℕ
   D = paired_draw z g l s s'
 
   pub lent_at : (k : ℕ) → get_or lent k [] ≡ cond (deals z l (k + 1)) (D (k + 1)) []
   lent_at k =
       ⊎_elim
-      (λ lt. is.each k lt ∙ at_deal (deals z l (k + 1)) z.t (get_or draws k []) (D (k + 1)) (λ d. let m = deals-member z v l (k + 1) good d in drew k (omega arith) d))
-      (λ le. get_or_past lent k [] (omega (arith, is.as_many)) ∙ no_deal (deals z l (k + 1)) (D (k + 1)) (λ d. let m = deals-member z v l (k + 1) good d in omega arith))
+      (λ lt. is k lt ∙ at_deal (deals z l (k + 1)) z.t (get_or draws k []) (D (k + 1)) (λ d. let m = deals-member z v l (k + 1) good d in drew k (omega arith) d))
+      (λ le. get_or_past lent k [] (omega arith) ∙ no_deal (deals z l (k + 1)) (D (k + 1)) (λ d. let m = deals-member z v l (k + 1) good d in omega arith))
       (cases_lt k 15)
 
   pub lent_to : (i : ℕ) → T (deals z l i) → of lent i ≡ D i
@@ -123,7 +118,7 @@ module _ (z : Circle) (g : List ℕ) (l : Line) (s s' : State) (v : ℕ) (good :
 -- the two lines together
 module _ (z : Circle) (c : ℕ → Bool) (g : List ℕ) (l : Line) (s s' : State) (coins figures : ℕ → List ℕ) (rows : List (List ℕ)) (figures' : ℕ → List ℕ) (rows' : List (List ℕ))
     (ec : coins ≡ s.coins) (h : Side s rows figures) (h' : Side s' rows' figures') (steady : Steady z l coins figures rows figures' rows') (few : z.n ≤ 15)
-    (draws lent : List (List ℕ)) (is : Lent z l draws lent) (drew : DrawnAs z g l s s' draws) where
+    (draws lent : List (List ℕ)) (len : length lent ≡ 15) (is : LentAs z l draws lent) (drew : DrawnAs z g l s s' draws) where
   first_state : in_state s.held figures coins ≡ s
   first_state = ap₂ (λ (f k : ℕ → List ℕ). in_state s.held f k) h.same_figures ec
 
@@ -144,15 +139,15 @@ module _ (z : Circle) (c : ℕ → Bool) (g : List ℕ) (l : Line) (s s' : State
       taken = done.taken;
       drawn = done.moved;
       opens = done.opens;
-      held' = done'.held ∙ ap (λ (fs : List (ℕ → ℕ)). map row_of (s'.held ++ fs)) (second_shares z g l s s' (length rows) good few draws lent is drew enough);
+      held' = done'.held ∙ ap (λ (fs : List (ℕ → ℕ)). map row_of (s'.held ++ fs)) (second_shares z g l s s' (length rows) good few draws lent len is drew enough);
       taken' = done'.taken;
       opens' = done'.opens ∙ ap (λ (xs : List ℕ). shown' ++ xs) (opened-coins z l s' (of lent));
       as_many = grown.as_many;
-      noted = λ k lt. grown.longer k lt ∙ ap (λ (xs : List ℕ). get_or paired k [] ++ xs) (lent_at z g l s s' (length rows) good few draws lent is drew k);
+      noted = λ k lt. grown.longer k lt ∙ ap (λ (xs : List ℕ). get_or paired k [] ++ xs) (lent_at z g l s s' (length rows) good few draws lent len is drew k);
     }
     both_at (Err e) done done' grown =
         only_memory e (short_at z l s'.figures (of lent))
-        (second_steady z g l s s' (length rows) good few draws lent is drew enough s'.figures (subst (λ (f : ℕ → List ℕ). (i : ℕ) → T (gives l i) → 1 ≤ length (f i)) h'.same_figures steady.given')) done'
+        (second_steady z g l s s' (length rows) good few draws lent len is drew enough s'.figures (subst (λ (f : ℕ → List ℕ). (i : ℕ) → T (gives l i) → 1 ≤ length (f i)) h'.same_figures steady.given')) done'
 
     pub both : (r : Result (Unit {0}) Refusal) → Done z c l (in_state s.held figures coins) rows₁ figures₁ coins₁ shown shown₁ seen seen₁ → DoneAs z c l (in_state s'.held figures' (of lent)) rows'₁ figures'₁ coins'₁ shown' shown'₁ seen' seen'₁ r → Grown paired lent paired₁ →
         BothAs z g l s s' coins₁ figures₁ rows₁ shown shown₁ figures'₁ rows'₁ shown' shown'₁ paired paired₁ r

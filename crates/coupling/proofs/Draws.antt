@@ -1,6 +1,6 @@
 -- What each member deals, and the coins of the second run, place by place.
 use Rattle.std.proofs.Common.{◌≡◌, ℕ, zero, suc, ◌+◌, ◌-◌, ◌<◌, ◌≤◌, Bool, true, false, cond, T, List, [], ◌∷◌, map, length, get_or, take, drop, set, sym, refl, ap, ◌∙◌, subst, ap₂, arith, Bor, below_more}
-use Rattle.std.proofs.lemmas.List.{get_or-set_same, get_or-set_other, map-set, length-map, get_or-drop, get_or-take, length-take-le, length-drop}
+use Rattle.std.proofs.lemmas.List.{get_or-set_same, get_or-set_other, map-set, length-map, get_or-drop, get_or-take, length-take-le, length-drop, nil_from_length}
 use Rattle.field.specs.Field.{◌⊕◌, ◌⊗◌, neg, below, all_below}
 use Rattle.field.proofs.Below.{both_parts, both_from}
 use Rattle.shares.specs.Circle.{Circle}
@@ -12,7 +12,8 @@ use Rattle.sheets.specs.declared.line.Line.TheVariants.{Product}
 use Rattle.runs.specs.Row.{row_of}
 use Rattle.runs.proofs.Inrow.{at_place}
 use Rattle.runs.specs.Pairing.{shifted, paired_draw}
-use Rattle.runs.specs.Run.{State, share, secret}
+use Rattle.runs.specs.Run.{State, share, secret, drawn}
+use Rattle.runs.proofs.Shifts.{difference, length-shifted}
 use Rattle.coupling.specs.Sides.{Side, higher}
 
 -- a list of rows, read at a place
@@ -84,6 +85,14 @@ module _ (z : Circle) (mask : List ℕ) (l : Line) (s s' : State) where
       sym (ap (λ (k : ℕ). take k draw) long)
       ∙ (shifted_places d g cs draw (wide ∙ sym long) (omega arith) places
       ∙ ap₂ (λ (x : ℕ) (xs : List ℕ). shifted (scaled x g) (take t xs)) (diff ∙ ap₂ (λ (x y : ℕ). x ⊕ neg y) high low) is)
+
+  -- nor is there anything in the draw of who draws nothing
+  pub draw_none : (i count : ℕ) (draw : List ℕ) → count ≡ cond (deals z l (i + 1)) z.t 0 → count ≡ 0 → Draw i draw
+  draw_none i count draw counts none deal =
+      let all : z.t ≡ 0 = sym (counted (deals z l (i + 1)) z.t count deal counts) ∙ none in
+      let empty : length (paired_draw z (higher z mask) l s s' (i + 1)) ≡ 0 =
+      length-shifted (scaled (difference (secret l s (i + 1)) (secret l s' (i + 1))) (higher z mask)) (drawn z s (i + 1)) ∙ ap (λ (t : ℕ). length (take t (s.coins (i + 1)))) all in
+      ap (λ (t : ℕ). take t draw) all ∙ sym (nil_from_length (paired_draw z (higher z mask) l s s' (i + 1)) empty)
 
 -- one more draw is lent
 pub lent_more : (z : Circle) (l : Line) (draws : List (List ℕ)) (lent : List (Bor (List ℕ))) (i : ℕ) (r : Bor (List ℕ)) → i < length lent → r.now ≡ take (cond (deals z l (i + 1)) z.t 0) (get_or draws i []) →

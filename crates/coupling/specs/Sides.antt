@@ -1,12 +1,8 @@
 -- Two runs side by side: what each holds, and the coins that the second draws for a line.
-use Rattle.std.specs.Prelude.{◌≡◌, ℕ, ◌+◌, ◌<◌, ◌≤◌, cond, T, List, [], map, length, take, drop, Ok, Err, Result, slice_index_or}
+use Rattle.std.specs.Prelude.{◌≡◌, ℕ, ◌+◌, ◌<◌, ◌≤◌, cond, T, List, [], map, length, take, drop, slice_index_or}
 use Rattle.shares.specs.Circle.{Circle}
 use Rattle.sheets.specs.Lines.{good_line, deals}
-use Rattle.sheets.specs.Numbers.{lists_in}
 use Rattle.sheets.specs.declared.line.Line.{Line}
-use Rattle.sheets.specs.declared.lists.Lists.{Lists}
-use Rattle.sheets.specs.declared.refusal.Refusal.{Refusal}
-use Rattle.sheets.specs.declared.refusal.Refusal.TheVariants.{NoMemory}
 use Rattle.runs.specs.Row.{row_of}
 use Rattle.runs.specs.Pairing.{paired_draw}
 use Rattle.runs.specs.Run.{State}
@@ -32,10 +28,5 @@ DrawnAs z g l s s' draws =
     (k : ℕ) → k < z.n → T (deals z l (k + 1)) → take z.t (slice_index_or draws k []) ≡ paired_draw z g l s s' (k + 1)
 
 -- each dealer's draw, and none of who deals nothing
-pub record Lent (z : Circle) (l : Line) (draws lent : List (List ℕ)) : Type 0 where
-  pub as_many : length lent ≡ 15
-  pub each : (k : ℕ) → k < 15 → slice_index_or lent k [] ≡ take (cond (deals z l (k + 1)) z.t 0) (slice_index_or draws k [])
-
-abbrev pub LentAs : Circle → Line → List (List ℕ) → Result Lists Refusal → Type 0
-LentAs z l draws (Ok lent) = Lent z l draws (lists_in lent)
-LentAs z l draws (Err e) = e ≡ NoMemory
+abbrev pub LentAs : Circle → Line → List (List ℕ) → List (List ℕ) → Type 0
+LentAs z l draws lent = (k : ℕ) → k < 15 → slice_index_or lent k [] ≡ take (cond (deals z l (k + 1)) z.t 0) (slice_index_or draws k [])

@@ -29,10 +29,13 @@ impl Shifter {
         for (i, draw) in draws.iter_mut().enumerate() {
             let member = i as u32 + 1;
             let count = line.coins_of(self.setup.n, self.setup.t, member);
-            let drawn = &list_of(&coins.lists, member)[..count];
-            let less = secret(line, first, member);
-            let more = secret(line, second, member);
-            *draw = masks::shift(field::sum(more, field::negative(less)), &self.mask, drawn);
+            // Nothing is worked out for who draws nothing.
+            if count > 0 {
+                let drawn = &list_of(&coins.lists, member)[..count];
+                let less = secret(line, first, member);
+                let more = secret(line, second, member);
+                *draw = masks::shift(field::sum(more, field::negative(less)), &self.mask, drawn);
+            }
         }
         draws
     }

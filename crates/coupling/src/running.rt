@@ -27,9 +27,10 @@ pub fn run_both(
     requires { Given (circle_of sheet.now) (lines_in sheet.now) (of (family coins.now)) (of (family figures.now)) (of (family other_figures.now)) }
     ensures { CoupledAs (circle_of sheet.now) (watches watched.now) (lines_in sheet.now) (of (family coins.now)) (of (family figures.now)) (of (family other_figures.now)) result }
 {
-    let coins = Lists::new(heap, coins)?;
-    let figures = Lists::new(heap, figures)?;
-    let other_figures = Lists::new(heap, other_figures)?;
+    // All are known to lie below P, so that none is looked through.
+    let coins = Lists::known(heap, coins)?;
+    let figures = Lists::known(heap, figures)?;
+    let other_figures = Lists::known(heap, other_figures)?;
     let setup = Setup::new(sheet, &[false; 15]);
     let mask = masks::mask(setup.n, watched);
     let shifter = Shifter { setup, mask };
@@ -51,14 +52,7 @@ fn run_lines(
     let mut second = Progress::new(heap, other_figures, lines.len(), 0)?;
     let mut paired = empty_lists(heap, &coins.lists)?;
     for line in lines {
-        shifter.do_both(
-            heap,
-            *line,
-            &mut coins,
-            &mut first,
-            &mut second,
-            &mut paired,
-        )?;
+        shifter.do_both(*line, &mut coins, &mut first, &mut second, &mut paired)?;
     }
     append_each(&mut paired, &coins.lists)?;
     Ok(Couple {

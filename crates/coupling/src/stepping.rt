@@ -12,13 +12,11 @@ use crate::lending::lend_draws;
 use crate::shifter::Shifter;
 use runs::Progress;
 use sheets::{Line, Lists, Refusal};
-use std::alloc::Global;
 
 impl Shifter {
     // Both runs do a line, the second with the paired coins, which are noted.
     pub(crate) fn do_both(
         &self,
-        heap: Global,
         line: Line,
         coins: &mut Lists,
         first: &mut Progress,
@@ -30,9 +28,9 @@ impl Shifter {
             BothAs (circle_in self.now.setup) (higher (circle_in self.now.setup) self.now.mask) line s s' (numbers coins.new) (numbers first.new.figures) first.new.held.items first.old.opened.items first.new.opened.items (numbers second.new.figures) second.new.held.items second.old.opened.items second.new.opened.items (lists_in paired.old) (lists_in paired.new) result }
     {
         let draws = self.paired_draws(line, coins, first, second);
-        let mut lent = lend_draws(heap, &self.setup, line, &draws)?;
-        append_each(paired, &lent.lists)?;
+        let mut lent = lend_draws(&self.setup, line, &draws);
+        append_each(paired, &lent)?;
         first.do_line(&self.setup, line, coins)?;
-        second.do_line(&self.setup, line, &mut lent)
+        second.advance(&self.setup, line, &mut lent)
     }
 }

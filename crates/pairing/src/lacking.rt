@@ -4,7 +4,7 @@ ghost use Rattle.sheets.specs.Families.{family};
 ghost use Rattle.sheets.specs.Numbers.{numbers};
 ghost use Rattle.sheets.specs.Sheets.{circle_of, lines_in};
 
-use sheets::{Line, Lists, Refusal, Sheet};
+use sheets::{Line, Lists, Refusal, Sheet, are_all_below};
 use std::alloc::Global;
 
 // What lines have left over of each member's figures in both runs and of its coins.
@@ -25,10 +25,14 @@ impl<'a> Left<'a> {
     ) -> Result<Left<'a>, Refusal>
         ensures { LentAs (family figures.now) (family other_figures.now) (family coins.now) result }
     {
+        // All are looked through before memory is asked for, so that want of it hides no number that is too large.
+        if !are_all_below(figures) || !are_all_below(other_figures) || !are_all_below(coins) {
+            return Err(Refusal::OutOfRange);
+        }
         Ok(Left {
-            figures: Lists::new(heap, figures)?,
-            other_figures: Lists::new(heap, other_figures)?,
-            coins: Lists::new(heap, coins)?,
+            figures: Lists::known(heap, figures)?,
+            other_figures: Lists::known(heap, other_figures)?,
+            coins: Lists::known(heap, coins)?,
         })
     }
 
